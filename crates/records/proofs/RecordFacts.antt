@@ -49,7 +49,7 @@ seats-of e =
     ∙ set-of-runs seat-count (seatsOf e) (seats-below e)
 
 pub rec-of : (r : Record) → recOf (bytesOf r) ≡ modelOf r
-unfolding recOf
+unfolding recOf recBytes
 rec-of r =
     ap₂ (λ (t s : ℕ). record { transaction = t; kind = kindOf (r .entry); seats = s }) (number-of (r .transaction) (r .small)) (seats-of (r .entry))
 
@@ -58,6 +58,7 @@ pub same-bytes : (a b : Record) → bytesOf a ≡ bytesOf b → a ≡ b
 same-bytes a b e = same-model a b (sym (rec-of a) ∙ ap recOf e ∙ rec-of b)
 
 pub length-bytes : (r : Record) → length (bytesOf r) ≡ 22
+unfolding recBytes
 length-bytes r = let n = length-padded pair-count (runsOf (seatsOf (r .entry))) in omega arith
 
 -- ---- the parts of the bytes
@@ -72,9 +73,11 @@ written-at s =
     subst (λ (x : List ℕ). Written (length (runsOf s)) x) (sym (take-all 16 (padded pair-count (runsOf s)) (omega arith))) w
 
 pub written-of : (bs : List ℕ) (r : Record) → bs ≡ bytesOf r → Written (getD bs 5 0) (take 16 (drop 6 bs))
+unfolding recBytes
 written-of bs r e = subst (λ (x : List ℕ). Written (getD x 5 0) (take 16 (drop 6 x))) (sym e) (written-at (seatsOf (r .entry)))
 
 pub seats-in : (bs : List ℕ) (r : Record) → bs ≡ bytesOf r → bitsOf seat-count (covers (pairsIn (getD bs 5 0) (take 16 (drop 6 bs)))) ≡ seatsOf (r .entry)
+unfolding recBytes
 seats-in bs r e =
     let s : ℕ = seatsOf (r .entry) in
     let n = length-padded pair-count (runsOf s) in
@@ -96,6 +99,7 @@ pub whole : (bs : List ℕ) (r : Record) → length bs ≡ 22 → getD bs 0 0 < 
     → r .transaction ≡ getD bs 0 0 * 16777216 + getD bs 1 0 * 65536 + getD bs 2 0 * 256 + getD bs 3 0
     → Written (getD bs 5 0) (take 16 (drop 6 bs)) → getD bs 4 0 ≡ kindOf (r .entry) → pairsIn (getD bs 5 0) (take 16 (drop 6 bs)) ≡ runsOf (seatsOf (r .entry))
     → bs ≡ bytesOf r
+unfolding recBytes
 whole bs r n la lb lc ld te w k p =
     let t : ℕ = r .transaction in
     let ps : List Pair = runsOf (seatsOf (r .entry)) in

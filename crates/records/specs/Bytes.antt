@@ -17,7 +17,7 @@ abbrev pub runsOf : ℕ → List Pair
 runsOf seats = runs seat-count 0 (member seats)
 
 -- transaction, kind, number of pairs, and the places of the pairs
-abbrev pub recBytes : Rec → List ℕ
+unfoldable pub recBytes : Rec → List ℕ
 recBytes r = word (r .transaction) ++ (r .kind ∷ (length (runsOf (r .seats)) ∷ padded pair-count (runsOf (r .seats))))
 
 abbrev pub bytesOf : Record → List ℕ

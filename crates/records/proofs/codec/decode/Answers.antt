@@ -5,7 +5,7 @@ use native.Mathlib.Omega.{arith}
 use lib.ListN.{getD, length}
 use Rattle.std.specs.declared.option.Option.{Option}
 use Rattle.std.specs.declared.option.Option.the-variants.{Some, None}
-use Rattle.records.specs.Bytes.{bytesOf, runsOf}
+use Rattle.records.specs.Bytes.{recBytes, bytesOf, runsOf}
 use Rattle.records.specs.Exactly.{Exactly}
 use Rattle.records.specs.Pairs.{Pair, covers}
 use Rattle.records.specs.Ranged.{held}
@@ -14,12 +14,17 @@ use Rattle.records.specs.Sets.{bitsOf}
 use Rattle.records.specs.declared.record.Entry.{Entry}
 use Rattle.records.specs.declared.record.Record.{Record}
 use Rattle.records.proofs.ExactFacts.{exactly-some, exactly-none, exactly-has, exactly-never}
-use Rattle.records.proofs.RecordFacts.{written-of, seats-in, runs-of-ranges, whole, same-bytes}
+use Rattle.records.proofs.RecordFacts.{written-of, seats-in, runs-of-ranges, whole, same-bytes, length-bytes}
 use Rattle.records.proofs.codec.decode.Needs as need
 
 -- bytes that no record has
 none : (bs : List ℕ) (o : Option Record) → o ≡ None → ((r : Record) → bs ≡ bytesOf r → ⊥) → Exactly (λ (r : Record). bs ≡ bytesOf r) o
 none bs o e never = subst (Exactly (λ (r : Record). bs ≡ bytesOf r)) (sym e) (exactly-none (λ (r : Record). bs ≡ bytesOf r) never)
+
+pub returns-then-bytes-ne-RECORD-BYTES : need.returns-then-bytes-ne-RECORD-BYTES
+returns-then-bytes-ne-RECORD-BYTES c =
+    let bs = c .args .bytes .now in
+    exactly-none (λ (r : Record). bs ≡ bytesOf r) (λ r e. c .if-bytes-ne-RECORD-BYTES .taken (ap length e ∙ length-bytes r))
 
 pub returns-in-Break-ranges : need.returns-in-Break-ranges
 returns-in-Break-ranges c =
@@ -27,6 +32,7 @@ returns-in-Break-ranges c =
     none bs (c .from-residual .result) (c .from-residual .ensures) (λ r e. c .in-Break-ranges .ensures tt (written-of bs r e))
 
 pub returns-in-Break-entry : need.returns-in-Break-entry
+unfolding recBytes
 returns-in-Break-entry c =
     let bs = c .args .bytes .now in
     let kind = getD bs 4 0 in

@@ -7,7 +7,7 @@ use Rattle.records.specs.declared.record.Entry.{Entry}
 use Rattle.records.proofs.codec.example.Needs as need
 
 pub returns : need.returns
-unfolding runs
+unfolding runs recBytes
 returns c =
     let r = c .new .result in
     let m : modelOf r ≡ record { transaction = 7; kind = 1; seats = 39 } =

@@ -1,0 +1,4 @@
+pub mod GatherFacts
+pub mod LogFacts
+pub mod SlotFacts
+pub mod TableFacts
