@@ -2,7 +2,7 @@
 use mathlib.Core.List.{List, []}
 use mathlib.Core.Path.{_≡_}
 use Prim.Native.Nat.{ℕ, _/_, _<_}
-use lib.ListN.{take}
+use lib.ListN.{length, take}
 use Rattle.std.specs.Of.Vec.{vec-items, vec-len}
 use Rattle.std.specs.declared.result.Result.{Result}
 use Rattle.std.specs.declared.result.Result.the-variants.{Ok, Err}
@@ -29,6 +29,7 @@ roomIn j = vec-len (j .bytes) / record-length
 pub record Opened (bs : List ℕ) (n : ℕ) (j : Journal) : Type 0 where
   pub sound : BytesSound bs n
   pub bytes : bytesIn j ≡ bs
+  pub capacity : roomIn j ≡ length bs / record-length
   pub safe : safeIn j ≡ take n (recsIn bs)
   pub loose : looseIn j ≡ []
 

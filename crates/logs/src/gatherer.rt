@@ -18,5 +18,7 @@ pub struct Gatherer<L> {
     ghost long: { length held ≡ held-length },
 }
 
+pub use logging::GathererLog;
+
 mod logging;
 mod making;

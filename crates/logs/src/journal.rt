@@ -22,5 +22,7 @@ pub struct Malformed {
     pub bytes: Vec<u8>,
 }
 
+pub use logging::JournalLog;
+
 mod logging;
 mod making;

@@ -21,4 +21,6 @@ pub struct Tray {
     ghost sound: { RowsSound used rows },
 }
 
+pub use logging::TrayLog;
+
 mod logging;

@@ -1,11 +1,11 @@
 ghost use mathlib.Core.List.{[]};
 ghost use mathlib.Core.Path.{_≡_};
-ghost use Prim.Native.Nat.{_<_, _≤_, _*_};
+ghost use Prim.Native.Nat.{_*_, _/_, _<_, _≤_};
 ghost use lib.ListN.{length};
-ghost use Rattle.std.specs.Of.Vec.{vec-items};
+ghost use Rattle.std.specs.Of.Vec.{vec-items, vec-len};
 ghost use Rattle.std.specs.Options.{Cases};
 ghost use Rattle.records.specs.Sizes.{record-length};
-ghost use Rattle.logs.specs.Journals.{bytesIn, safeIn, looseIn, OpenAnswer};
+ghost use Rattle.logs.specs.Journals.{bytesIn, safeIn, looseIn, roomIn, OpenAnswer};
 ghost use Rattle.logs.specs.Slots.{MalformedAt, BytesSound};
 use super::Journal;
 use super::Malformed;
@@ -16,6 +16,7 @@ impl Journal {
     // A journal without records, over a buffer whose bytes stay as they are until a record is added.
     pub fn create(bytes: Vec<u8>) -> Journal
         ensures bytes { λ r. ⌜ bytesIn r ≡ vec-items bytes ⌝ }
+        ensures capacity { λ r. ⌜ roomIn r ≡ vec-len bytes / record-length ⌝ }
         ensures safe { λ r. ⌜ safeIn r ≡ [] ⌝ }
         ensures loose { λ r. ⌜ looseIn r ≡ [] ⌝ }
     {

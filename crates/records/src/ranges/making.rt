@@ -9,7 +9,6 @@ ghost use Rattle.records.specs.Sizes.{seat-count, pair-count};
 use super::PAIRS;
 use super::Ranges;
 use crate::seat::SEATS;
-use crate::seat::Seat;
 use crate::seats::SeatSet;
 
 impl Ranges {
@@ -48,7 +47,7 @@ impl Ranges {
         // how many seats right below k are in the set
         let mut width = 0u8;
         for k in 0..SEATS + 1 {
-            if taken(seats, k) {
+            if seats.has_number(k) {
                 width += 1;
             } else {
                 if width > 0 {
@@ -70,15 +69,5 @@ impl Ranges {
             seats = seats.with_range(offset, count);
         }
         seats
-    }
-}
-
-// Whether the seat of this number is in the set; no set has one past the last seat.
-fn taken(seats: SeatSet, number: u8) -> bool
-    ensures { λ r. ⌜ r ≡ member (seats .bits) number ⌝ }
-{
-    match Seat::new(number) {
-        Some(seat) => seats.has(seat),
-        None => false,
     }
 }

@@ -45,6 +45,16 @@ impl SeatSet {
         (self.bits >> seat.number()) & 1 == 1
     }
 
+    // Whether the seat of this number is in the set; no set has one past the last seat.
+    pub fn has_number(self, number: u8) -> bool
+        ensures { λ r. ⌜ r ≡ member (self .bits) number ⌝ }
+    {
+        match Seat::new(number) {
+            Some(seat) => self.has(seat),
+            None => false,
+        }
+    }
+
     // The set with this seat too.
     pub fn with(self, seat: Seat) -> SeatSet
         ensures { λ r. ⌜ ((k : ℕ) → member (r .bits) k ≡ (eqb k (seat .value) || member (self .bits) k)) ⌝ }

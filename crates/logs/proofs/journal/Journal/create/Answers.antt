@@ -4,4 +4,4 @@ use Rattle.logs.proofs.journal.Journal.create.Needs as need
 
 pub returns : need.returns
 unfolding safeOf looseOf
-returns c = record { bytes = refl; safe = refl; loose = refl }
+returns c = record { bytes = refl; capacity = refl; safe = refl; loose = refl }

@@ -1,6 +1,6 @@
 use mathlib.Core.List.{List}
-use mathlib.Core.Path.{_≡_, refl, subst, _∙_}
-use Prim.Native.Nat.{ℕ, _≤_, _*_}
+use mathlib.Core.Path.{_≡_, refl, subst, ap}
+use Prim.Native.Nat.{ℕ, _/_}
 use native.Mathlib.Omega.{arith}
 use lib.ListN.{length}
 use Rattle.std.specs.Of.Vec.{vec-items, vec-len}
@@ -29,5 +29,6 @@ returns-in-None c =
     record {
       sound = sound (vec-items (c .args .bytes)) (c .deref .result .now) n (c .deref .ensures .value) (c .in-None .ensures tt .1);
       bytes = refl;
+      capacity = ap (λ (x : ℕ). x / 22) (c .args .bytes .ok .0);
       safe = take-take n n rs (omega arith);
       loose = looseOf-none n rs }

@@ -7,7 +7,7 @@ use Rattle.records.specs.Sets.{member}
 use Rattle.records.proofs.PairFacts.{Cut, cut-none, cut-in, cut-out, cut-shut, runs-unique}
 use Rattle.records.proofs.SetFacts.{member-low}
 use Rattle.records.proofs.ranges.Ranges.of.Needs as need
-use Rattle.records.proofs.ranges.Ranges.of.Needs.{then-taken, else-taken·then-width-gt0, else-taken·else-width-gt0}
+use Rattle.records.proofs.ranges.Ranges.of.Needs.{then-has-number, else-has-number·then-width-gt0, else-has-number·else-width-gt0}
 
 pub loop-k-holds : need.loop-k-holds
 loop-k-holds c = rw (c .none-ranges .ensures) (cut-none (member (c .args .seats .bits)) 16)
@@ -22,15 +22,15 @@ loop-k-again c =
     let n = c .loop-k .width in
     let r = c .loop-k .ranges in
     let i = c .loop-k .inv in
-    elim (c .if-taken .came) [
-      then-taken w ↦
-        let y = sym (w .if-taken .ensures tt) in
+    elim (c .if-has-number .came) [
+      then-has-number w ↦
+        let y = sym (w .if-has-number .ensures tt) in
         simp (w .ranges-is, w .width-is) (cut-in (member b) 16 k n (held r) i (member-low 16 b k (c .args .seats .small) y) y)
-    | else-taken·then-width-gt0 w ↦
-        let no = sym (w .if-taken .ensures tt) in
+    | else-has-number·then-width-gt0 w ↦
+        let no = sym (w .if-has-number .ensures tt) in
         simp (w .ranges-is, w .width-is, w .push .ensures) (cut-shut (member b) 16 k n (held r) (r .apart) i (w .if-width-gt0 .taken) (omega arith) (λ _. no))
-    | else-taken·else-width-gt0 w ↦
-        let no = sym (w .if-taken .ensures tt) in
+    | else-has-number·else-width-gt0 w ↦
+        let no = sym (w .if-has-number .ensures tt) in
         let z : n ≡ 0 = omega arith in
         let i0 : Cut (member b) 16 k 0 (held r) = subst (λ x. Cut (member b) 16 k x (held r)) z i in
         simp (w .ranges-is, w .width-is) (cut-out (member b) 16 k (held r) (r .apart) i0 (omega arith) (λ _. no))

@@ -1,0 +1,95 @@
+// lezkouar: shows what a journal holds after a power cut, and prints the records of a journal file.
+use logs::journal::Journal;
+use logs::journal::JournalLog;
+use logs::log::Log;
+use records::codec::encode;
+use std::env;
+use std::error::AnyError;
+use std::fs;
+use wording::call::Command;
+use wording::call::USAGE;
+use wording::call::parse;
+use wording::demonstration::after_cut;
+use wording::demonstration::sample;
+use wording::text::describe;
+use wording::text::hex;
+
+// Prints each record of a log: its number, its transaction, its kind and its seats.
+fn print_records<L: Log>(rt: &LibcRuntime, log: &L) -> Result<(), AnyError> {
+    for i in 0..log.count() {
+        if let Some(record) = log.read(i) {
+            let words = describe(rt.alloc(), &record)?;
+            println!(rt, "  record {i}: {words}")?;
+        }
+    }
+    Ok(())
+}
+
+// Prints two records in words and in bytes, and what is left of them after a power cut at each telling moment.
+fn demonstrate(rt: &LibcRuntime) -> Result<(), AnyError> {
+    let heap = rt.alloc();
+    println!(rt, "A journal gets two records. Neither is secured yet.")?;
+    let journal = sample(heap)?;
+    for i in 0..journal.count() {
+        if let Some(record) = journal.read(i) {
+            let words = describe(heap, &record)?;
+            let bytes = hex(heap, &encode(&record))?;
+            println!(rt, "  record {i}: {words}")?;
+            println!(rt, "   {bytes}")?;
+        }
+    }
+    println!(rt, "The power goes, and the journal is restarted. By how many bytes had reached the disk, it holds:")?;
+    for reached in [0, 21, 22, 43, 44] {
+        let restarted = after_cut(heap, reached)?;
+        let left = restarted.count();
+        println!(rt, "{reached} bytes: {left} of 2 records")?;
+        print_records(rt, &restarted)?;
+    }
+    let mut secured = sample(heap)?;
+    secured.secure();
+    secured.restart(0);
+    let left = secured.count();
+    println!(rt, "Secured before the power went, 0 bytes: {left} of 2 records")?;
+    print_records(rt, &secured)
+}
+
+// Says on standard error what is wrong, and ends with status 1.
+fn refuse(rt: &LibcRuntime, why: &str) -> Result<(), AnyError> {
+    eprintln!(rt, "lezkouar: {why}")?;
+    Err(why.into())
+}
+
+// Prints the first records of a journal file.
+fn inspect(rt: &LibcRuntime, file: &str, count: &str) -> Result<(), AnyError> {
+    let heap = rt.alloc();
+    let Ok(count) = count.parse::<usize>() else {
+        return refuse(rt, format!(heap, "COUNT is a number of records, not '{count}'")?.as_str());
+    };
+    let bytes = match fs::read(rt, file) {
+        Ok(bytes) => bytes,
+        Err(why) => return refuse(rt, format!(heap, "cannot read {file}: {why}")?.as_str()),
+    };
+    match Journal::open(bytes, count) {
+        Ok(journal) => print_records(rt, &journal),
+        Err(refusal) => {
+            let number = refusal.record;
+            refuse(rt, format!(heap, "{file}: record {number} is malformed or lies outside the file")?.as_str())
+        }
+    }
+}
+
+fn main(rt: LibcRuntime) -> Result<(), AnyError> {
+    let mut words = Vec::new(rt.alloc());
+    for word in env::args(&rt)?.skip(1) {
+        words.push(word)?;
+    }
+    match parse(&words) {
+        Command::Demonstrate => demonstrate(&rt),
+        Command::Help => Ok(println!(rt, "{USAGE}")?),
+        Command::Journal(file, count) => inspect(&rt, file, count),
+        Command::Unknown => {
+            eprintln!(rt, "lezkouar: unknown command\n\n{USAGE}")?;
+            Err("unknown command".into())
+        }
+    }
+}

@@ -1,0 +1,3 @@
+mod CallFacts
+mod SampleFacts
+mod TextFacts
