@@ -9,8 +9,8 @@ use Rattle.std.specs.declared.option.Option.{Option}
 use Rattle.std.specs.declared.option.Option.the-variants.{Some, None}
 use Rattle.std.specs.declared.result.Result.{Result}
 use Rattle.std.specs.declared.result.Result.the-variants.{Ok, Err}
-use Rattle.records.proofs.ExactFacts.{exactly-has, exactly-never}
-use Rattle.records.specs.Exactly.{Exactly}
+use Rattle.seats.proofs.ExactFacts.{exactly-has, exactly-never}
+use Rattle.seats.specs.Exactly.{Exactly}
 use Rattle.records.specs.Recs.{Rec, modelOf}
 use Rattle.records.specs.declared.record.Record.{Record}
 use Rattle.logs.specs.Adding.{looseAfter, addAnswer}

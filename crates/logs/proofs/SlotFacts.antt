@@ -14,8 +14,8 @@ use Rattle.std.specs.Iters.{counting}
 use Rattle.std.specs.Options.{isSome}
 use Rattle.std.specs.declared.option.Option.{Option}
 use Rattle.std.specs.declared.option.Option.the-variants.{Some, None}
-use Rattle.records.proofs.ExactFacts.{exactly-has}
-use Rattle.records.specs.Exactly.{Exactly}
+use Rattle.seats.proofs.ExactFacts.{exactly-has}
+use Rattle.seats.specs.Exactly.{Exactly}
 use Rattle.records.proofs.RecordFacts.{rec-of, length-bytes}
 use Rattle.records.specs.Bytes.{bytesOf, recOf}
 use Rattle.records.specs.Recs.{Rec, modelOf}

@@ -10,13 +10,14 @@ use Rattle.records.specs.Bytes.{word, runsOf, recBytes, bytesOf, recOf}
 use Rattle.records.specs.Pairs.{Pair, covers, parted, runs, padded, pairsIn}
 use Rattle.records.specs.Ranged.{Written}
 use Rattle.records.specs.Recs.{Rec, kindOf, seatsOf, modelOf}
-use Rattle.records.specs.Sets.{member, bitsOf}
-use Rattle.records.specs.Sizes.{seat-count, pair-count}
+use Rattle.seats.specs.Sets.{member, bitsOf}
+use Rattle.seats.specs.Sizes.{seat-count}
+use Rattle.records.specs.Sizes.{pair-count}
 use Rattle.records.specs.declared.record.Entry.{Entry}
 use Rattle.records.specs.declared.record.Record.{Record}
 use Rattle.records.proofs.CellFacts.{pairsIn-padded, length-padded, length-pairsIn}
 use Rattle.records.proofs.PairFacts.{runs-unique, runs-parted, covers-runs, parted-length}
-use Rattle.records.proofs.SetFacts.{member-bits, bits-ext, bits-member}
+use Rattle.seats.proofs.SetFacts.{member-bits, bits-ext, bits-member}
 use Rattle.records.proofs.ValueFacts.{same-model, seats-below}
 
 -- ---- ranges and sets, for any number of seats

@@ -1,4 +1,4 @@
--- Values whose numbers tell them apart: seats, sets, entries and records.
+-- Values whose numbers tell them apart: entries and records.
 use mathlib.Core.HLevel.{isProp→PathP}
 use mathlib.Core.Path.{_≡_, ap}
 use Prim.Native.Nat.{ℕ, _^_, _<_}
@@ -6,19 +6,12 @@ use native.Mathlib.Bridge.{le-prop}
 use native.Mathlib.Omega.{arith}
 use Rattle.std.proofs.shelf.Bits.{pow-below}
 use Rattle.records.specs.Recs.{Rec, kindOf, seatsOf, modelOf}
-use Rattle.records.specs.Sizes.{seat-count}
+use Rattle.seats.specs.Sizes.{seat-count}
 use Rattle.records.specs.declared.record.Entry.{Entry}
 use Rattle.records.specs.declared.record.Entry.the-variants.{Decision, Vote, Kept, Undone}
 use Rattle.records.specs.declared.record.Record.{Record}
-use Rattle.records.specs.declared.seat.Seat.{Seat}
-use Rattle.records.specs.declared.seats.SeatSet.{SeatSet}
-use Rattle.records.proofs.SetFacts.{pow-same}
-
-pub same-seat : (a b : Seat) → a .value ≡ b .value → a ≡ b
-same-seat a b e = λ i. record { value = e i; small = isProp→PathP (λ j. e j < seat-count) (λ j. le-prop) (a .small) (b .small) i }
-
-pub same-set : (a b : SeatSet) → a .bits ≡ b .bits → a ≡ b
-same-set a b e = λ i. record { bits = e i; small = isProp→PathP (λ j. e j < 2 ^ seat-count) (λ j. le-prop) (a .small) (b .small) i }
+use Rattle.seats.proofs.SetFacts.{pow-same}
+use Rattle.seats.proofs.ValueFacts.{same-seat, same-set}
 
 -- kinds are told apart by their numbers
 no-kind : {X : Type 0} (m n : ℕ) → m ≡ n → (m ≡ n → ⊥) → X

@@ -1,12 +1,18 @@
 -- The bytes of a record, and what bytes say.
 use mathlib.Core.List.{List, [], _∷_, _++_}
+use mathlib.Core.Path.{_≡_}
 use Prim.Native.Nat.{ℕ, _+_, _*_, _/_, _%_, _^_}
 use lib.ListN.{length, replicate, getD, drop}
+use Rattle.std.specs.declared.option.Option.{Option}
+use Rattle.std.specs.declared.option.Option.the-variants.{Some, None}
 use Rattle.records.specs.Pairs.{Pair, covers, runs, padded, pairsIn}
 use Rattle.records.specs.Recs.{Rec, modelOf}
-use Rattle.records.specs.Sets.{member, bitsOf}
-use Rattle.records.specs.Sizes.{seat-count, pair-count}
+use Rattle.records.specs.Rows.{rowMeans}
+use Rattle.seats.specs.Sets.{member, bitsOf}
+use Rattle.seats.specs.Sizes.{seat-count}
+use Rattle.records.specs.Sizes.{pair-count}
 use Rattle.records.specs.declared.record.Record.{Record}
+use Rattle.records.specs.declared.row.Row.{Row}
 
 -- a 32-bit number in four bytes, the highest first
 abbrev pub word : ℕ → List ℕ
@@ -29,6 +35,11 @@ recOf bs = record {
     transaction = getD bs 0 0 * 2 ^ 24 + getD bs 1 0 * 2 ^ 16 + getD bs 2 0 * 2 ^ 8 + getD bs 3 0;
     kind = getD bs 4 0;
     seats = bitsOf seat-count (covers (pairsIn (getD bs 5 0) (drop 6 bs))) }
+
+-- the bytes are a record's exactly if they are read as a row that is this record's
+abbrev pub ReadsRow : List ℕ → Option Row → Type 0
+ReadsRow bs (Some w) = (r : Record) → (bs ≡ bytesOf r → rowMeans w ≡ modelOf r) × (rowMeans w ≡ modelOf r → bs ≡ bytesOf r)
+ReadsRow bs None = (r : Record) → bs ≡ bytesOf r → ⊥
 
 -- transaction 7, a Decision, two runs: three seats from 0 on, one from 5 on
 abbrev pub example-bytes : List ℕ

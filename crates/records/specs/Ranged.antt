@@ -7,7 +7,8 @@ use lib.ListN.{take}
 use Rattle.std.specs.declared.option.Option.{Option}
 use Rattle.std.specs.declared.option.Option.the-variants.{Some, None}
 use Rattle.records.specs.Pairs.{Pair, parted, padded, pairsIn}
-use Rattle.records.specs.Sizes.{seat-count, pair-count}
+use Rattle.seats.specs.Sizes.{seat-count}
+use Rattle.records.specs.Sizes.{pair-count}
 use Rattle.records.specs.declared.ranges.Ranges.{Ranges}
 
 abbrev pub held : Ranges → List Pair

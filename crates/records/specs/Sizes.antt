@@ -1,11 +1,7 @@
--- The sizes of the format: another number of seats changes these alone.
+-- The sizes of the format.
 use Prim.Native.Nat.{ℕ}
 
--- the seats are the numbers below it
-abbrev pub seat-count : ℕ
-seat-count = 16
-
--- how many pairs a record has places for
+-- how many pairs a record has places for: half as many as there are seats
 abbrev pub pair-count : ℕ
 pair-count = 8
 

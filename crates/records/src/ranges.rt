@@ -3,7 +3,8 @@ ghost use mathlib.Core.Bool.{true};
 ghost use Prim.Native.Nat.{_≤_};
 ghost use lib.ListN.{length, take};
 ghost use Rattle.records.specs.Pairs.{parted, after};
-ghost use Rattle.records.specs.Sizes.{seat-count, pair-count};
+ghost use Rattle.seats.specs.Sizes.{seat-count};
+ghost use Rattle.records.specs.Sizes.{pair-count};
 
 // How many pairs a record has places for.
 pub(crate) const PAIRS: usize = 8;

@@ -1,11 +1,11 @@
 ghost use mathlib.Core.Path.{_≡_};
 ghost use Prim.Native.Nat.{_^_, _<_};
-use crate::seat::Seat;
-use crate::seat::SeatDebug;
-use crate::seat::SeatPartialEq;
-use crate::seats::SeatSet;
-use crate::seats::SeatSetDebug;
-use crate::seats::SeatSetPartialEq;
+use seats::seat::Seat;
+use seats::seat::SeatDebug;
+use seats::seat::SeatPartialEq;
+use seats::set::SeatSet;
+use seats::set::SeatSetDebug;
+use seats::set::SeatSetPartialEq;
 
 // What a record says of its transaction.
 #[derive(Clone, Copy, PartialEq, Eq, Debug)]

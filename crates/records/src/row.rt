@@ -1,10 +1,10 @@
 ghost use mathlib.Core.Path.{_≡_};
-ghost use Rattle.records.specs.Exactly.{Exactly};
+ghost use Rattle.seats.specs.Exactly.{Exactly};
 ghost use Rattle.records.specs.Recs.{modelOf};
 ghost use Rattle.records.specs.Rows.{rowMeans};
 use crate::record::Entry;
 use crate::record::Record;
-use crate::seats::SeatSet;
+use seats::set::SeatSet;
 
 // A record as a plain row of numbers, which any numbers may fill: it is read back with a check.
 #[derive(Clone, Copy, PartialEq, Eq, Debug)]

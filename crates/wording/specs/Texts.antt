@@ -3,11 +3,11 @@ use mathlib.Core.Bool.{cond}
 use mathlib.Core.List.{List, [], _∷_, _++_}
 use Prim.Native.Nat.{ℕ, zero, suc, _+_, _/_, _%_}
 use lib.Chars.{codes}
-use lib.Dec.{ltb}
+use lib.Dec.{eqb, ltb}
 use Rattle.std.specs.Written.{decimal}
 use Rattle.records.specs.Recs.{seatsOf}
-use Rattle.records.specs.Sets.{member}
-use Rattle.records.specs.Sizes.{seat-count}
+use Rattle.seats.specs.Sets.{member}
+use Rattle.seats.specs.Sizes.{seat-count}
 use Rattle.records.specs.declared.record.Entry.{Entry}
 use Rattle.records.specs.declared.record.Entry.the-variants.{Decision, Vote, Kept, Undone}
 use Rattle.records.specs.declared.record.Record.{Record}
@@ -39,6 +39,14 @@ seatsBelow bits (suc k) = seatsBelow bits k ++ seatMark bits k
 abbrev pub seatText : ℕ → List ℕ
 seatText bits = seatsBelow bits seat-count
 
+-- a Decision has any number of seats, the others have one
+abbrev pub nounText : Entry → List ℕ
+nounText (Decision s) = cond (eqb (s .bits) 0) (codes "no seats") (codes "seats")
+nounText (Vote s) = codes "seat"
+nounText (Kept s) = codes "seat"
+nounText (Undone s) = codes "seat"
+
 -- transaction T: KIND, seats A B C
 abbrev pub recordText : Record → List ℕ
-recordText r = codes "transaction " ++ (decimal (r .transaction) ++ (codes ": " ++ (kindText (r .entry) ++ (codes ", seats" ++ seatText (seatsOf (r .entry))))))
+recordText r =
+    codes "transaction " ++ (decimal (r .transaction) ++ (codes ": " ++ (kindText (r .entry) ++ (codes ", " ++ (nounText (r .entry) ++ seatText (seatsOf (r .entry)))))))

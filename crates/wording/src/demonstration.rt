@@ -12,8 +12,8 @@ use logs::log::Log;
 use records::codec::RECORD_BYTES;
 use records::record::Entry;
 use records::record::Record;
-use records::seat::Seat;
-use records::seats::SeatSet;
+use seats::seat::Seat;
+use seats::set::SeatSet;
 use std::alloc::AllocError;
 use std::alloc::Global;
 

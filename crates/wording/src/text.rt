@@ -3,12 +3,12 @@ ghost use mathlib.Core.List.{_++_};
 ghost use lib.Chars.{codes};
 ghost use Rattle.std.specs.Of.String.{string-bytes};
 ghost use Rattle.std.specs.Vec.{made};
-ghost use Rattle.wording.specs.Texts.{hexDigit, hexText, kindText, seatMark, seatText, recordText};
+ghost use Rattle.wording.specs.Texts.{hexDigit, hexText, kindText, nounText, seatMark, seatText, recordText};
 ghost use Prim.Native.Nat.{_<_};
 use records::record::Entry;
 use records::record::Record;
-use records::seat::SEATS;
-use records::seats::SeatSet;
+use seats::seat::SEATS;
+use seats::set::SeatSet;
 use std::alloc::AllocError;
 use std::alloc::Global;
 
@@ -69,6 +69,19 @@ pub fn describe(heap: Global, record: &Record) -> Result<String, AllocError>
 {
     let transaction = record.transaction;
     let kind = kind_name(record.entry);
+    let noun = seat_noun(record.entry);
     let seats = seat_list(heap, record.entry.seats())?;
-    format!(heap, "transaction {transaction}: {kind}, seats{seats}")
+    format!(heap, "transaction {transaction}: {kind}, {noun}{seats}")
+}
+
+// What the seats of an entry are called.
+fn seat_noun(entry: Entry) -> &'static str
+    ensures { λ r. ⌜ now r ≡ nounText entry ⌝ }
+{
+    match entry {
+        Entry::Decision(seats) => {
+            if seats.bits() == 0 { "no seats" } else { "seats" }
+        }
+        _ => "seat",
+    }
 }

@@ -5,7 +5,7 @@ use super::HELD_RECORDS;
 use crate::log::Log;
 use records::record::Entry;
 use records::record::Record;
-use records::seats::SeatSet;
+use seats::set::SeatSet;
 
 impl<L: Log> Gatherer<L> {
     // A gatherer over a log, holding nothing.

@@ -6,10 +6,11 @@ ghost use lib.ListN.{length, getD};
 ghost use Rattle.std.specs.Orderings.{Decides};
 ghost use Rattle.records.specs.Pairs.{after, padded};
 ghost use Rattle.records.specs.Ranged.{held, ReadsRanges};
-ghost use Rattle.records.specs.Sizes.{seat-count, pair-count};
+ghost use Rattle.seats.specs.Sizes.{seat-count};
+ghost use Rattle.records.specs.Sizes.{pair-count};
 use super::PAIRS;
 use super::Ranges;
-use crate::seat::SEATS;
+use seats::seat::SEATS;
 
 // How many bytes the pairs of a record take: an offset and a length each.
 pub(crate) const CELLS: usize = 16;

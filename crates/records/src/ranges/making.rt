@@ -4,12 +4,13 @@ ghost use Prim.Native.Nat.{_+_, _≤_};
 ghost use lib.ListN.{length};
 ghost use Rattle.records.specs.Pairs.{after, covers, runs};
 ghost use Rattle.records.specs.Ranged.{held};
-ghost use Rattle.records.specs.Sets.{member, bitsOf};
-ghost use Rattle.records.specs.Sizes.{seat-count, pair-count};
+ghost use Rattle.seats.specs.Sets.{member, bitsOf};
+ghost use Rattle.seats.specs.Sizes.{seat-count};
+ghost use Rattle.records.specs.Sizes.{pair-count};
 use super::PAIRS;
 use super::Ranges;
-use crate::seat::SEATS;
-use crate::seats::SeatSet;
+use seats::seat::SEATS;
+use seats::set::SeatSet;
 
 impl Ranges {
     // No ranges.
@@ -66,7 +67,8 @@ impl Ranges {
         let mut seats = SeatSet::empty();
         for i in 0..self.count {
             let (offset, count) = self.pairs[i];
-            seats = seats.with_range(offset, count);
+            let Some(range) = SeatSet::range(offset, count) else { unreachable() };
+            seats = seats.union(range);
         }
         seats
     }

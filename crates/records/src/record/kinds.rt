@@ -1,8 +1,8 @@
 ghost use mathlib.Core.Path.{_≡_};
-ghost use Rattle.records.specs.Exactly.{Exactly};
+ghost use Rattle.seats.specs.Exactly.{Exactly};
 ghost use Rattle.records.specs.Recs.{kindOf, seatsOf};
 use super::Entry;
-use crate::seats::SeatSet;
+use seats::set::SeatSet;
 
 // The numbers of the kinds of entry, in bytes and in rows.
 const DECISION: u8 = 1;

@@ -3,7 +3,7 @@ use mathlib.Core.Path.{_≡_, refl, subst}
 use Prim.Native.Nat.{ℕ}
 use native.Mathlib.Omega.{arith}
 use Rattle.records.specs.Bytes.{bytesOf}
-use Rattle.records.specs.Exactly.{Exactly}
+use Rattle.seats.specs.Exactly.{Exactly}
 use Rattle.records.specs.declared.record.Record.{Record}
 use Rattle.logs.specs.Slots.{slot, BytesSound}
 use Rattle.logs.proofs.SlotFacts.{short, sound-read, slot-lent}

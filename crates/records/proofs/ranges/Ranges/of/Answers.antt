@@ -3,9 +3,9 @@ use mathlib.Core.Bool.{Bool, false}
 use Prim.Native.Nat.{ℕ, _≤_, _<_}
 use native.Mathlib.Omega.{arith}
 use Rattle.records.specs.Ranged.{held}
-use Rattle.records.specs.Sets.{member}
+use Rattle.seats.specs.Sets.{member}
 use Rattle.records.proofs.PairFacts.{Cut, cut-none, cut-in, cut-out, cut-shut, runs-unique}
-use Rattle.records.proofs.SetFacts.{member-low}
+use Rattle.seats.proofs.SetFacts.{member-low}
 use Rattle.records.proofs.ranges.Ranges.of.Needs as need
 use Rattle.records.proofs.ranges.Ranges.of.Needs.{then-has-number, else-has-number·then-width-gt0, else-has-number·else-width-gt0}
 

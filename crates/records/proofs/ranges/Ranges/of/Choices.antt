@@ -1,5 +1,5 @@
 use Rattle.records.specs.Ranged.{held}
-use Rattle.records.specs.Sets.{member}
+use Rattle.seats.specs.Sets.{member}
 use Rattle.records.proofs.PairFacts.{Cut}
 use Rattle.records.proofs.ranges.Ranges.of.Given as given
 

@@ -1,13 +1,13 @@
 use mathlib.Core.Path.{_≡_, refl, sym, _∙_, subst}
 use Prim.Native.Nat.{ℕ, _^_}
-use Rattle.records.specs.Exactly.{Exactly}
+use Rattle.seats.specs.Exactly.{Exactly}
 use Rattle.records.specs.Recs.{kindOf, seatsOf}
 use Rattle.records.specs.declared.record.Entry.{Entry}
 use Rattle.records.specs.declared.record.Entry.the-variants.{Decision, Vote, Kept, Undone}
-use Rattle.records.specs.declared.seat.Seat.{Seat}
-use Rattle.records.specs.declared.seats.SeatSet.{SeatSet}
+use Rattle.seats.specs.declared.seat.Seat.{Seat}
+use Rattle.seats.specs.declared.set.SeatSet.{SeatSet}
 use Rattle.std.specs.declared.option.Option.the-variants.{Some, None}
-use Rattle.records.proofs.ExactFacts.{exactly-some, exactly-none, exactly-has, exactly-never}
+use Rattle.seats.proofs.ExactFacts.{exactly-some, exactly-none, exactly-has, exactly-never}
 use Rattle.records.proofs.ValueFacts.{same-entry}
 use Rattle.records.proofs.record.Entry.of.Needs as need
 

@@ -1,11 +1,11 @@
 use mathlib.Core.Path.{_≡_, sym, _∙_, ap, ap₂, subst}
 use Prim.Native.Nat.{ℕ}
-use Rattle.records.specs.Exactly.{Exactly}
+use Rattle.seats.specs.Exactly.{Exactly}
 use Rattle.records.specs.Recs.{Rec, kindOf, seatsOf, modelOf}
 use Rattle.records.specs.Rows.{rowMeans}
 use Rattle.records.specs.declared.record.Entry.{Entry}
 use Rattle.records.specs.declared.record.Record.{Record}
-use Rattle.records.proofs.ExactFacts.{exactly-some, exactly-none, exactly-has, exactly-never}
+use Rattle.seats.proofs.ExactFacts.{exactly-some, exactly-none, exactly-has, exactly-never}
 use Rattle.records.proofs.ValueFacts.{same-model, same-rec}
 use Rattle.records.proofs.row.Row.record.Needs as need
 

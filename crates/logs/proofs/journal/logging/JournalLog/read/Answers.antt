@@ -6,7 +6,7 @@ use lib.ListN.{length}
 use Rattle.std.specs.declared.option.Option.the-variants.{Some}
 use Rattle.records.proofs.RecordFacts.{rec-of}
 use Rattle.records.specs.Bytes.{bytesOf, recOf}
-use Rattle.records.specs.Exactly.{Exactly}
+use Rattle.seats.specs.Exactly.{Exactly}
 use Rattle.records.specs.declared.record.Record.{Record}
 use Rattle.logs.specs.Journals.{bytesIn}
 use Rattle.logs.specs.Slots.{slot, recAt, recsIn}

@@ -1,7 +1,0 @@
-use borrow.Author.Needs.{needs}
-use Rattle.records.specs.Bytes.{recBytes}
-use Rattle.records.proofs.codec.encode.Needs as need
-
-pub returns : need.returns
-unfolding recBytes
-returns c = search needs

@@ -1,6 +1,0 @@
-use mathlib.Core.Path.{sym}
-use Rattle.records.proofs.SetFacts.{member-high}
-use Rattle.records.proofs.seats.SeatSet.has_number.Needs as need
-
-pub returns-in-None : need.returns-in-None
-returns-in-None c = sym (member-high 16 (c .args .self .bits) (c .args .number) (c .args .self .small) (c .in-None .ensures tt))

@@ -1,0 +1,3 @@
+pub mod ExactFacts
+pub mod SetFacts
+pub mod ValueFacts

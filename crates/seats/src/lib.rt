@@ -1,0 +1,3 @@
+// Seats and sets of seats.
+pub mod seat;
+pub mod set;
