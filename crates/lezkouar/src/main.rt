@@ -1,6 +1,6 @@
 // lezkouar: shows what a journal holds after a power cut, and prints the records of a journal file.
-use logs::journal::Journal;
-use logs::journal::JournalLog;
+use journals::journal::Journal;
+use journals::journal::JournalLog;
 use logs::log::Log;
 use records::codec::encode;
 use std::env;
@@ -38,7 +38,10 @@ fn demonstrate(rt: &LibcRuntime) -> Result<(), AnyError> {
             println!(rt, "   {bytes}")?;
         }
     }
-    println!(rt, "The power goes, and the journal is restarted. By how many bytes had reached the disk, it holds:")?;
+    println!(
+        rt,
+        "The power goes, and the journal is restarted. By how many bytes had reached the disk, it holds:"
+    )?;
     for reached in [0, 21, 22, 43, 44] {
         let restarted = after_cut(heap, reached)?;
         let left = restarted.count();
@@ -49,7 +52,10 @@ fn demonstrate(rt: &LibcRuntime) -> Result<(), AnyError> {
     secured.secure();
     secured.restart(0);
     let left = secured.count();
-    println!(rt, "Secured before the power went, 0 bytes: {left} of 2 records")?;
+    println!(
+        rt,
+        "Secured before the power went, 0 bytes: {left} of 2 records"
+    )?;
     print_records(rt, &secured)
 }
 
@@ -63,7 +69,10 @@ fn refuse(rt: &LibcRuntime, why: &str) -> Result<(), AnyError> {
 fn inspect(rt: &LibcRuntime, file: &str, count: &str) -> Result<(), AnyError> {
     let heap = rt.alloc();
     let Ok(count) = count.parse::<usize>() else {
-        return refuse(rt, format!(heap, "COUNT is a number of records, not '{count}'")?.as_str());
+        return refuse(
+            rt,
+            format!(heap, "COUNT is a number of records, not '{count}'")?.as_str(),
+        );
     };
     let bytes = match fs::read(rt, file) {
         Ok(bytes) => bytes,
@@ -73,7 +82,13 @@ fn inspect(rt: &LibcRuntime, file: &str, count: &str) -> Result<(), AnyError> {
         Ok(journal) => print_records(rt, &journal),
         Err(refusal) => {
             let number = refusal.record;
-            refuse(rt, format!(heap, "{file}: record {number} is malformed or lies outside the file")?.as_str())
+            refuse(
+                rt,
+                format!(
+                    heap,
+                    "{file}: record {number} is malformed or lies outside the file"
+                )?.as_str(),
+            )
         }
     }
 }

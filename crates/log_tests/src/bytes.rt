@@ -48,7 +48,10 @@ fn seats_end_at_fifteen() -> Result<(), Fail> {
 
 #[test]
 fn sets_have_what_was_put_in() -> Result<(), Fail> {
-    let set = SeatSet::empty().with(seat(0)?).with(seat(15)?).with(seat(0)?);
+    let set = SeatSet::empty()
+        .with(seat(0)?)
+        .with(seat(15)?)
+        .with(seat(0)?);
     check_eq(set.bits(), 0x8001)?;
     check(set.has(seat(15)?))?;
     check(!set.has(seat(1)?))?;
@@ -97,7 +100,9 @@ fn the_largest_records_fill_their_places() -> Result<(), Fail> {
 fn each_broken_rule_is_refused() -> Result<(), Fail> {
     check(malformed(&[0, 1, 5, 1])).note("kind 0")?;
     check(malformed(&[5, 1, 5, 1])).note("kind 5")?;
-    check(malformed(&[1, 9, 0, 1, 2, 1, 4, 1, 6, 1, 8, 1, 10, 1, 12, 1, 14, 1])).note("nine pairs")?;
+    check(malformed(&[1, 9, 0, 1, 2, 1, 4, 1, 6, 1, 8, 1, 10, 1, 12, 1, 14, 1])).note(
+        "nine pairs",
+    )?;
     check(malformed(&[1, 1, 5, 0])).note("a length of 0")?;
     check(malformed(&[1, 1, 15, 2])).note("past seat 15")?;
     check(malformed(&[1, 1, 16, 1])).note("from seat 16 on")?;
@@ -106,7 +111,9 @@ fn each_broken_rule_is_refused() -> Result<(), Fail> {
     check(malformed(&[1, 2, 0, 3, 2, 1])).note("overlapping")?;
     check(malformed(&[1, 2, 0, 2, 2, 1])).note("touching")?;
     check(malformed(&[1, 1, 0, 1, 9])).note("an unused offset that is not zero")?;
-    check(malformed(&[1, 0, 0, 0, 0, 0, 0, 0, 0, 0, 0, 0, 0, 0, 0, 0, 0, 1])).note("the last byte not zero")?;
+    check(malformed(&[1, 0, 0, 0, 0, 0, 0, 0, 0, 0, 0, 0, 0, 0, 0, 0, 0, 1])).note(
+        "the last byte not zero",
+    )?;
     check(malformed(&[2, 0])).note("a Vote with no seat")?;
     check(malformed(&[2, 1, 0, 2])).note("a Vote with two neighbours")?;
     check(malformed(&[3, 2, 0, 1, 2, 1])).note("a Kept with two seats")?;
@@ -124,9 +131,49 @@ fn only_whole_records_are_read() -> Result<(), Fail> {
 
 #[test]
 fn rows_are_read_back_with_a_check() -> Result<(), Fail> {
-    check(Row { transaction: 1, kind: 0, seats: 1 }.record().is_none()).note("kind 0")?;
-    check(Row { transaction: 1, kind: 5, seats: 1 }.record().is_none()).note("kind 5")?;
-    check(Row { transaction: 1, kind: 2, seats: 0 }.record().is_none()).note("a Vote with no seat")?;
-    check(Row { transaction: 1, kind: 3, seats: 3 }.record().is_none()).note("a Kept with two seats")?;
-    check(Row { transaction: 1, kind: 1, seats: 0 }.record().is_some()).note("a Decision with no seat")
+    check(
+        Row {
+            transaction: 1,
+            kind: 0,
+            seats: 1,
+        }
+            .record()
+            .is_none(),
+    ).note("kind 0")?;
+    check(
+        Row {
+            transaction: 1,
+            kind: 5,
+            seats: 1,
+        }
+            .record()
+            .is_none(),
+    ).note("kind 5")?;
+    check(
+        Row {
+            transaction: 1,
+            kind: 2,
+            seats: 0,
+        }
+            .record()
+            .is_none(),
+    ).note("a Vote with no seat")?;
+    check(
+        Row {
+            transaction: 1,
+            kind: 3,
+            seats: 3,
+        }
+            .record()
+            .is_none(),
+    ).note("a Kept with two seats")?;
+    check(
+        Row {
+            transaction: 1,
+            kind: 1,
+            seats: 0,
+        }
+            .record()
+            .is_some(),
+    ).note("a Decision with no seat")
 }

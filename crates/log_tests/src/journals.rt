@@ -1,7 +1,7 @@
 // Journals and trays: capacities, refusals and what a restart keeps.
 use crate::bytes::seat;
-use logs::journal::Journal;
-use logs::journal::JournalLog;
+use journals::journal::Journal;
+use journals::journal::JournalLog;
 use logs::log::Full;
 use logs::log::FullDebug;
 use logs::log::FullPartialEq;
@@ -72,7 +72,36 @@ fn adding_writes_its_record_and_no_other_byte(rt: LibcRuntime) -> Result<(), Fai
     fill(&mut two, 1)?;
     let bytes = two.into_bytes();
     check(bytes.len() == 50)?;
-    check(bytes.as_slice().starts_with(&[0, 0, 0, 0, 2, 1, 3, 1, 0, 0, 0, 0, 0, 0, 0, 0, 0, 0, 0, 0, 0, 0, 0xee, 0xee]))?;
+    check(
+        bytes.as_slice().starts_with(
+            &[
+                0,
+                0,
+                0,
+                0,
+                2,
+                1,
+                3,
+                1,
+                0,
+                0,
+                0,
+                0,
+                0,
+                0,
+                0,
+                0,
+                0,
+                0,
+                0,
+                0,
+                0,
+                0,
+                0xee,
+                0xee,
+            ],
+        ),
+    )?;
     check(bytes.as_slice().ends_with(&[0xee; 28]))
 }
 
@@ -109,7 +138,16 @@ fn a_count_past_the_buffer_is_refused(rt: LibcRuntime) -> Result<(), Fail> {
 
 #[test]
 fn a_journal_keeps_what_reached_the_disk(rt: LibcRuntime) -> Result<(), Fail> {
-    for (n, kept) in [(0, 1), (21, 1), (22, 2), (43, 2), (44, 3), (65, 3), (66, 4), (u32::MAX, 4)] {
+    for (n, kept) in [
+        (0, 1),
+        (21, 1),
+        (22, 2),
+        (43, 2),
+        (44, 3),
+        (65, 3),
+        (66, 4),
+        (u32::MAX, 4),
+    ] {
         let mut log = journal(rt.alloc(), 88)?;
         fill(&mut log, 1)?;
         log.secure();

@@ -15,18 +15,33 @@ use wording::text::hex;
 fn records_in_words(rt: LibcRuntime) -> Result<(), Fail> {
     let heap = rt.alloc();
     let decision = Record::new(7, Entry::Decision(SeatSet::from_bits(0b10_0111)));
-    check_eq(describe(heap, &decision)?.as_str(), "transaction 7: Decision, seats 0 1 2 5")?;
+    check_eq(
+        describe(heap, &decision)?.as_str(),
+        "transaction 7: Decision, seats 0 1 2 5",
+    )?;
     let none = Record::new(u32::MAX, Entry::Decision(SeatSet::empty()));
-    check_eq(describe(heap, &none)?.as_str(), "transaction 4294967295: Decision, no seats")?;
+    check_eq(
+        describe(heap, &none)?.as_str(),
+        "transaction 4294967295: Decision, no seats",
+    )?;
     let kept = Record::new(0, Entry::Kept(seat(15)?));
-    check_eq(describe(heap, &kept)?.as_str(), "transaction 0: Kept, seat 15")?;
+    check_eq(
+        describe(heap, &kept)?.as_str(),
+        "transaction 0: Kept, seat 15",
+    )?;
     let undone = Record::new(1, Entry::Undone(seat(0)?));
-    check_eq(describe(heap, &undone)?.as_str(), "transaction 1: Undone, seat 0")
+    check_eq(
+        describe(heap, &undone)?.as_str(),
+        "transaction 1: Undone, seat 0",
+    )
 }
 
 #[test]
 fn bytes_in_hexadecimal(rt: LibcRuntime) -> Result<(), Fail> {
-    check_eq(hex(rt.alloc(), &[0, 9, 10, 255, 0x3c])?.as_str(), " 00 09 0a ff 3c")
+    check_eq(
+        hex(rt.alloc(), &[0, 9, 10, 255, 0x3c])?.as_str(),
+        " 00 09 0a ff 3c",
+    )
 }
 
 // The name of the command that some words ask for.
@@ -35,13 +50,15 @@ fn asked(heap: Global, words: &[&str]) -> Result<&'static str, AllocError> {
     for word in words {
         texts.push(String::from_str(heap, word)?)?;
     }
-    Ok(match parse(&texts) {
-        Command::Demonstrate => "demonstrate",
-        Command::Help => "help",
-        Command::Journal("f", "3") => "journal",
-        Command::Journal(_, _) => "another journal",
-        Command::Unknown => "unknown",
-    })
+    Ok(
+        match parse(&texts) {
+            Command::Demonstrate => "demonstrate",
+            Command::Help => "help",
+            Command::Journal("f", "3") => "journal",
+            Command::Journal(_, _) => "another journal",
+            Command::Unknown => "unknown",
+        },
+    )
 }
 
 #[test]

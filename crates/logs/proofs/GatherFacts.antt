@@ -55,13 +55,13 @@ fitted-more cap s l xs m w =
     let sp : ℕ = cap - (length s + length l) in
     ⊎-elim
     (λ (h : length xs < sp).
-        let e : take sp xs ≡ xs = take-all sp xs (omega arith) in
-        let f : take sp (xs ++ m ∷ []) ≡ xs ++ m ∷ [] = take-all sp (xs ++ m ∷ []) (rw length-push (omega arith)) in
-        let on : length s + length (l ++ take sp xs) < cap = simp (length-append, length-take) (omega arith) in
-        sym (loose-on cap s (l ++ take sp xs) m on) ∙ append-assoc l (take sp xs) (m ∷ []) ∙ ap (λ (z : List Rec). l ++ z) (ap (λ (z : List Rec). z ++ m ∷ []) e ∙ sym f))
+    let e : take sp xs ≡ xs = take-all sp xs (omega arith) in
+    let f : take sp (xs ++ m ∷ []) ≡ xs ++ m ∷ [] = take-all sp (xs ++ m ∷ []) (rw length-push (omega arith)) in
+    let on : length s + length (l ++ take sp xs) < cap = simp (length-append, length-take) (omega arith) in
+    sym (loose-on cap s (l ++ take sp xs) m on) ∙ append-assoc l (take sp xs) (m ∷ []) ∙ ap (λ (z : List Rec). l ++ z) (ap (λ (z : List Rec). z ++ m ∷ []) e ∙ sym f))
     (λ (h : sp ≤ length xs).
-        let off : cap ≤ length s + length (l ++ take sp xs) = simp (length-append, length-take) (omega arith) in
-        sym (loose-off cap s (l ++ take sp xs) m off) ∙ ap (λ (z : List Rec). l ++ z) (sym (take-append-le sp xs (m ∷ []) h)))
+    let off : cap ≤ length s + length (l ++ take sp xs) = simp (length-append, length-take) (omega arith) in
+    sym (loose-off cap s (l ++ take sp xs) m off) ∙ ap (λ (z : List Rec). l ++ z) (sym (take-append-le sp xs (m ∷ []) h)))
     (cases-lt (length xs) sp)
 
 -- one more, where what is known of the log below stands in equations
@@ -89,7 +89,7 @@ read-held cap s l xs i d h k =
     let t : List Rec = take sp xs in
     let n : i < length ((s ++ l) ++ t) = simp (length-append, length-take) (omega arith) in
     sym (ap (λ (z : List Rec). nth z i) (sym (append-assoc s l t)) ∙ nth-getD ((s ++ l) ++ t) i d n
-        ∙ ap Some (getD-append-right (s ++ l) t (length s + length l) i d (length-append s l) h ∙ getD-take sp xs (i - (length s + length l)) d (omega arith)))
+    ∙ ap Some (getD-append-right (s ++ l) t (length s + length l) i d (length-append s l) h ∙ getD-take sp xs (i - (length s + length l)) d (omega arith)))
 
 pub read-none : (cap : ℕ) (s l xs : List Rec) (i : ℕ) → length s + length l ≤ i → min (length xs) (cap - (length s + length l)) ≤ i - (length s + length l) → None ≡ nth (s ++ fitted cap s l xs) i
 unfolding fitted

@@ -1,4 +1,3 @@
 pub mod GatherFacts
 pub mod LogFacts
-pub mod SlotFacts
 pub mod TableFacts

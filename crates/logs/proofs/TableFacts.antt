@@ -60,8 +60,8 @@ unfolding safeOf looseOf
 safeOf-part a b k xs h =
     let m : List Rec = xs in
     let whole : take a (take b m) ++ take k (drop a (take b m)) ≡ take (a + k) m =
-        ap (λ (s : List Rec). s ++ take k (drop a (take b m))) (sym (take-take a (a + k) (take b m) (omega arith)))
-        ∙ ap (λ (s : List Rec). take a (take (a + k) (take b m)) ++ s) (sym (drop-take a k (take b m)))
-        ∙ take-append-drop a (take (a + k) (take b m))
-        ∙ take-take (a + k) b m h in
+    ap (λ (s : List Rec). s ++ take k (drop a (take b m))) (sym (take-take a (a + k) (take b m) (omega arith)))
+    ∙ ap (λ (s : List Rec). take a (take (a + k) (take b m)) ++ s) (sym (drop-take a k (take b m)))
+    ∙ take-append-drop a (take (a + k) (take b m))
+    ∙ take-take (a + k) b m h in
     take-take (a + k) (a + k) m (omega arith) ∙ sym whole

@@ -1,16 +1,11 @@
 -- No log holds more than its capacity, and no restart keeps more than there was: what the logs of this crate owe.
 use mathlib.Core.List.{List, _++_}
 use mathlib.Core.Path.{_≡_, sym, ap, _∙_}
-use Prim.Native.Nat.{ℕ, _+_, _*_, _/_, _≤_, min}
+use Prim.Native.Nat.{ℕ, _+_, _-_, _≤_, min}
 use native.Mathlib.Omega.{arith}
 use lib.ListN.{length, take, drop, length-append, length-take, take-append-drop}
-use Rattle.std.specs.Of.Vec.{vec-items, vec-len}
-use Rattle.std.specs.declared.alloc.Global.{Global}
-use Rattle.std.specs.declared.vec.Vec.{Vec}
 use Rattle.records.specs.Recs.{Rec}
-use Rattle.records.specs.Sizes.{record-length}
 use Rattle.logs.specs.Gathering.{fitted}
-use Rattle.logs.specs.Slots.{recsIn}
 use Rattle.logs.specs.Tables.{safeOf, looseOf}
 
 pub smaller : (m n : ℕ) → min m n ≤ m
@@ -20,12 +15,8 @@ pub table-within : (secured used most : ℕ) (rs : List Rec) → used ≤ most �
 unfolding safeOf looseOf
 table-within a b most rs h =
     let e : length (take a (take b rs)) + length (drop a (take b rs)) ≡ length (take b rs) =
-      sym (length-append (take a (take b rs)) (drop a (take b rs))) ∙ ap length (take-append-drop a (take b rs)) in
+    sym (length-append (take a (take b rs)) (drop a (take b rs))) ∙ ap length (take-append-drop a (take b rs)) in
     omega (arith, e, length-take b rs)
-
-pub journal-within : (secured used : ℕ) (bytes : Vec ℕ Global) → record-length * used ≤ vec-len bytes
-    → length (safeOf secured used (recsIn (vec-items bytes))) + length (looseOf secured used (recsIn (vec-items bytes))) ≤ vec-len bytes / record-length
-journal-within a b bytes h = table-within a b (vec-len bytes / record-length) (recsIn (vec-items bytes)) (omega arith)
 
 pub fitted-within : (most : ℕ) (s l rs : List Rec) → length s + length l ≤ most → length s + length (fitted most s l rs) ≤ most
 unfolding fitted

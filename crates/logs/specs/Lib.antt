@@ -2,9 +2,7 @@ pub mod Adding
 pub mod Bounds
 pub mod Gatherers
 pub mod Gathering
-pub mod Journals
 pub mod Rows
 pub mod Sizes
-pub mod Slots
 pub mod Tables
 pub mod Trays

@@ -1,5 +1,4 @@
-// Logs of records that survive a power cut: what every log promises, and three of them.
+// What every log promises, a log in a table, and one over any other log.
 pub mod gatherer;
-pub mod journal;
 pub mod log;
 pub mod tray;

@@ -72,7 +72,7 @@ front-parted a n (p ∷ ps) l h =
           low = omega arith;
           some = omega arith;
           high = omega arith;
-          rest = unfirst (a + 1 + 1) n p ps (record { low = omega arith; some = f .some; high = f .high; rest = f .rest })
+          rest = unfirst (a + 1 + 1) n p ps (record { low = omega arith; some = f .some; high = f .high; rest = f .rest });
         }))
 
 -- the runs of a set are parted ..
@@ -83,8 +83,8 @@ runs-parted (suc n) a f =
     let same : a + 1 + n ≡ a + suc n = omega arith in
     let ih : parted (a + 1) (a + suc n) (runs n (a + 1) f) ≡ true = rw same at (runs-parted n (a + 1) f) in
     elim (f a) as (λ b. parted a (a + suc n) (cond b (front a (runs n (a + 1) f)) (runs n (a + 1) f)) ≡ true) [
-      true ↦ front-parted a (a + suc n) (runs n (a + 1) f) (omega arith) ih
-    | false ↦ parted-down (a + 1) a (a + suc n) (runs n (a + 1) f) (omega arith) ih
+      | true ↦ front-parted a (a + suc n) (runs n (a + 1) f) (omega arith) ih
+      | false ↦ parted-down (a + 1) a (a + suc n) (runs n (a + 1) f) (omega arith) ih
     ]
 
 pub covers-front-same : (a n : ℕ) (ps : List Pair) → parted (a + 1) n ps ≡ true → covers (front a ps) a ≡ true
@@ -182,6 +182,7 @@ runs-unique n f ps h e = parted-same 0 n ps (runs n 0 f) h runs-ok each
   where
     runs-ok : parted 0 n (runs n 0 f) ≡ true
     runs-ok = let same : 0 + n ≡ n = omega arith in rw same at (runs-parted n 0 f)
+
     each : (k : ℕ) → covers ps k ≡ covers (runs n 0 f) k
     each k = go (leb-tells n k)
       where
@@ -266,18 +267,24 @@ pub record Cut (f : ℕ → Bool) (n k width : ℕ) (ps : List Pair) : Type 0 wh
 
 pub cut-none : (f : ℕ → Bool) (n : ℕ) → Cut f n 0 0 []
 cut-none f n = record {
-    fits = omega arith; low = omega arith; shut = λ h. refl; before = omega arith;
-    done = λ j h l. let no : ⊥ = omega arith in absurd no; run = λ j h l. let no : ⊥ = omega arith in absurd no }
+  fits = omega arith;
+  low = omega arith;
+  shut = λ h. refl;
+  before = omega arith;
+  done = λ j h l. let no : ⊥ = omega arith in absurd no;
+  run = λ j h l. let no : ⊥ = omega arith in absurd no;
+}
 
 -- seat k is in f
 pub cut-in : (f : ℕ → Bool) (n k width : ℕ) (ps : List Pair) → Cut f n k width ps → k < n → f k ≡ true → Cut f n (k + 1) (width + 1) ps
 cut-in f n k width ps c l y = record {
-    fits = omega arith;
-    low = omega arith;
-    shut = λ h. let no : ⊥ = omega arith in absurd no;
-    before = let b = c .before in omega arith;
-    done = λ j h m. c .done j (omega arith) m;
-    run = λ j h m. at j (eqb-tells j k) h m }
+  fits = omega arith;
+  low = omega arith;
+  shut = λ h. let no : ⊥ = omega arith in absurd no;
+  before = let b = c .before in omega arith;
+  done = λ j h m. c .done j (omega arith) m;
+  run = λ j h m. at j (eqb-tells j k) h m;
+}
   where
     at : (j : ℕ) → ((eqb j k ≡ true) × (j ≡ k)) ⊎ ((eqb j k ≡ false) × (j ≡ k → ⊥)) → j < k + 1 → k + 1 ≤ j + (width + 1) → f j ≡ true
     at j (inl e) h m = rw (e .1) y
@@ -286,12 +293,13 @@ cut-in f n k width ps c l y = record {
 -- it is not, or there is no such seat, and no run is width
 pub cut-out : (f : ℕ → Bool) (n k : ℕ) (ps : List Pair) → parted 0 n ps ≡ true → Cut f n k 0 ps → k ≤ n → (k < n → f k ≡ false) → Cut f n (k + 1) 0 ps
 cut-out f n k ps P c u y = record {
-    fits = omega arith;
-    low = omega arith;
-    shut = λ h. refl;
-    before = let b = c .before in omega arith;
-    done = λ j h m. at j (eqb-tells j k) h m;
-    run = λ j h m. let no : ⊥ = omega arith in absurd no }
+  fits = omega arith;
+  low = omega arith;
+  shut = λ h. refl;
+  before = let b = c .before in omega arith;
+  done = λ j h m. at j (eqb-tells j k) h m;
+  run = λ j h m. let no : ⊥ = omega arith in absurd no;
+}
   where
     at : (j : ℕ) → ((eqb j k ≡ true) × (j ≡ k)) ⊎ ((eqb j k ≡ false) × (j ≡ k → ⊥)) → j + 0 < k + 1 → j < n → covers ps j ≡ f j
     at j (inl e) h m =
@@ -304,12 +312,13 @@ cut-out f n k ps P c u y = record {
 pub cut-shut : (f : ℕ → Bool) (n k width : ℕ) (ps : List Pair) → parted 0 n ps ≡ true → Cut f n k width ps → 0 < width → k ≤ n → (k < n → f k ≡ false)
     → Cut f n (k + 1) 0 (ps ++ (k - width, width) ∷ [])
 cut-shut f n k width ps P c o u y = record {
-    fits = omega arith;
-    low = omega arith;
-    shut = λ h. refl;
-    before = let b = after-push 0 ps (k - width, width) in let g = c .fits in omega arith;
-    done = λ j h m. rw (covers-push ps (k - width, width) j) (at j (leb-tells k j) (leb-tells (k - width) j) h m);
-    run = λ j h m. let no : ⊥ = omega arith in absurd no }
+  fits = omega arith;
+  low = omega arith;
+  shut = λ h. refl;
+  before = let b = after-push 0 ps (k - width, width) in let g = c .fits in omega arith;
+  done = λ j h m. rw (covers-push ps (k - width, width) j) (at j (leb-tells k j) (leb-tells (k - width) j) h m);
+  run = λ j h m. let no : ⊥ = omega arith in absurd no;
+}
   where
     at : (j : ℕ) → ((leb k j ≡ true) × (k ≤ j)) ⊎ ((leb k j ≡ false) × (j < k)) → ((leb (k - width) j ≡ true) × (k - width ≤ j)) ⊎ ((leb (k - width) j ≡ false) × (j < k - width))
         → j + 0 < k + 1 → j < n → ((leb (k - width) j && ltb j (k - width + width)) || covers ps j) ≡ f j

@@ -70,7 +70,7 @@ written-at s =
     let e : pairsIn (length (runsOf s)) (padded pair-count (runsOf s)) ≡ runsOf s = pairsIn-padded pair-count (runsOf s) (runs-few pair-count s) in
     let n = length-padded pair-count (runsOf s) in
     let w : Written (length (runsOf s)) (padded pair-count (runsOf s)) =
-      record { few = runs-few pair-count s; apart = rw e (runs-parted seat-count 0 (member s)); unused = sym (ap (padded pair-count) e) } in
+    record { few = runs-few pair-count s; apart = rw e (runs-parted seat-count 0 (member s)); unused = sym (ap (padded pair-count) e) } in
     subst (λ (x : List ℕ). Written (length (runsOf s)) x) (sym (take-all 16 (padded pair-count (runsOf s)) (omega arith))) w
 
 pub written-of : (bs : List ℕ) (r : Record) → bs ≡ bytesOf r → Written (getD bs 5 0) (take 16 (drop 6 bs))

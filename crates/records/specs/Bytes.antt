@@ -32,9 +32,10 @@ bytesOf r = recBytes (modelOf r)
 -- what the bytes say, whether they are a record's or not
 unfoldable pub recOf : List ℕ → Rec
 recOf bs = record {
-    transaction = getD bs 0 0 * 2 ^ 24 + getD bs 1 0 * 2 ^ 16 + getD bs 2 0 * 2 ^ 8 + getD bs 3 0;
-    kind = getD bs 4 0;
-    seats = bitsOf seat-count (covers (pairsIn (getD bs 5 0) (drop 6 bs))) }
+  transaction = getD bs 0 0 * 2 ^ 24 + getD bs 1 0 * 2 ^ 16 + getD bs 2 0 * 2 ^ 8 + getD bs 3 0;
+  kind = getD bs 4 0;
+  seats = bitsOf seat-count (covers (pairsIn (getD bs 5 0) (drop 6 bs)));
+}
 
 -- the bytes are a record's exactly if they are read as a row that is this record's
 abbrev pub ReadsRow : List ℕ → Option Row → Type 0

@@ -59,5 +59,9 @@ fn read_row(bytes: &[u8]) -> Option<Row>
     }
     let transaction = u32::from_be_bytes([bytes[0], bytes[1], bytes[2], bytes[3]]);
     let ranges = Ranges::read(bytes[5], &bytes[6..RECORD_BYTES])?;
-    Some(Row { transaction, kind: bytes[4], seats: ranges.seats().bits() })
+    Some(Row {
+        transaction,
+        kind: bytes[4],
+        seats: ranges.seats().bits(),
+    })
 }

@@ -20,14 +20,22 @@ impl Row {
         ensures { λ r. ⌜ rowMeans r ≡ modelOf (now («record» .entry)) ⌝ }
     {
         let entry = record.entry;
-        Row { transaction: record.transaction, kind: entry.kind(), seats: entry.seats().bits() }
+        Row {
+            transaction: record.transaction,
+            kind: entry.kind(),
+            seats: entry.seats().bits(),
+        }
     }
 
     // The record whose row this is, or none where it is no record's.
     pub fn record(&self) -> Option<Record>
         ensures { λ r. ⌜ Exactly (λ x. rowMeans (now (self .entry)) ≡ modelOf x) r ⌝ }
     {
-        let Row { transaction, kind, seats } = *self;
+        let Row {
+            transaction,
+            kind,
+            seats,
+        } = *self;
         let entry = Entry::of(kind, SeatSet::from_bits(seats))?;
         Some(Record::new(transaction, entry))
     }

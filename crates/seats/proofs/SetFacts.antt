@@ -61,6 +61,7 @@ member-bits (suc n) f k l = go (eqb-tells k n) (λ h. member-bits n f k h)
   where
     x : ℕ
     x = bitsOf n f
+
     top : (b : Bool) → member (bitsOf n f + cond b (2 ^ n) 0) n ≡ b
     top true =
         let e : bitsOf n f + 2 ^ n ≡ 1 * 2 ^ n + bitsOf n f = omega arith in
@@ -68,6 +69,7 @@ member-bits (suc n) f k l = go (eqb-tells k n) (λ h. member-bits n f k h)
     top false =
         let e : bitsOf n f + 0 ≡ 0 * 2 ^ n + bitsOf n f = omega arith in
         rw (e, high 0 n (bits-below n f))
+
     below : (b : Bool) → k < n → member (bitsOf n f + cond b (2 ^ n) 0) k ≡ member (bitsOf n f) k
     below true h =
         let e : bitsOf n f + 2 ^ n ≡ 1 * 2 ^ n + bitsOf n f = omega arith in
@@ -75,6 +77,7 @@ member-bits (suc n) f k l = go (eqb-tells k n) (λ h. member-bits n f k h)
     below false h =
         let e : bitsOf n f + 0 ≡ bitsOf n f = omega arith in
         rw e refl
+
     go : ((eqb k n ≡ true) × (k ≡ n)) ⊎ ((eqb k n ≡ false) × (k ≡ n → ⊥)) → (k < n → member (bitsOf n f) k ≡ f k) → member (bitsOf (suc n) f) k ≡ f k
     go (inl e) ih = rw (e .1) (top (f n))
     go (inr e) ih = let ne : k ≡ n → ⊥ = e .1 in let h : k < n = omega arith in below (f n) h ∙ ih h

@@ -18,7 +18,11 @@ impl Seat {
     pub fn new(number: u8) -> Option<Seat>
         ensures { λ r. ⌜ Cases r (seat-count ≤ number) (λ s. s .value ≡ number) ⌝ }
     {
-        if number < SEATS { Some(Seat { value: number }) } else { None }
+        if number < SEATS {
+            Some(Seat { value: number })
+        } else {
+            None
+        }
     }
 
     // Its number.

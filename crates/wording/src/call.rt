@@ -31,7 +31,10 @@ pub fn parse(words: &[String]) -> Command<'_>
     match words {
         [] => Command::Demonstrate,
         [word] if word.as_str() == "--help" => Command::Help,
-        [word, file, count] if word.as_str() == "journal" => Command::Journal(file.as_str(), count.as_str()),
+        [word, file, count] if word.as_str() == "journal" => Command::Journal(
+            file.as_str(),
+            count.as_str(),
+        ),
         _ => Command::Unknown,
     }
 }

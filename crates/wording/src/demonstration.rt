@@ -4,10 +4,10 @@ ghost use Prim.Native.Nat.{_/_};
 ghost use lib.ListN.{take};
 ghost use Rattle.std.specs.Vec.{made};
 ghost use Rattle.records.specs.Sizes.{record-length};
-ghost use Rattle.logs.specs.Journals.{safeIn, looseIn};
+ghost use Rattle.journals.specs.Journals.{safeIn, looseIn};
 ghost use Rattle.wording.specs.Demonstration.{sampleRecs};
-use logs::journal::Journal;
-use logs::journal::JournalLog;
+use journals::journal::Journal;
+use journals::journal::JournalLog;
 use logs::log::Log;
 use records::codec::RECORD_BYTES;
 use records::record::Entry;
@@ -22,7 +22,9 @@ pub fn sample(heap: Global) -> Result<Journal, AllocError>
     ensures { λ r. ⌜ made r (λ j. (safeIn j ≡ []) × (looseIn j ≡ sampleRecs)) ⌝ }
 {
     let mut journal = Journal::create(vec![in heap; 0; 2 * RECORD_BYTES]?);
-    let Some(seat) = Seat::new(5) else { unreachable() };
+    let Some(seat) = Seat::new(5) else {
+        unreachable()
+    };
     let _ = journal.add(Record::new(7, Entry::Decision(SeatSet::from_bits(0b10_0111))));
     let _ = journal.add(Record::new(7, Entry::Vote(seat)));
     Ok(journal)

@@ -30,7 +30,11 @@ fn hex_digit(n: u8) -> char
     requires { ⌜ n < 16 ⌝ }
     ensures { λ r. ⌜ r ≡ hexDigit n ⌝ }
 {
-    if n < 10 { char::from(b'0' + n) } else { char::from(b'a' + (n - 10)) }
+    if n < 10 {
+        char::from(b'0' + n)
+    } else {
+        char::from(b'a' + (n - 10))
+    }
 }
 
 // The name of an entry's kind.
@@ -60,7 +64,11 @@ pub fn seat_list(heap: Global, seats: SeatSet) -> Result<String, AllocError>
 fn seat_mark(heap: Global, seats: SeatSet, number: u8) -> Result<String, AllocError>
     ensures { λ r. ⌜ made r (λ s. string-bytes s ≡ seatMark (seats .bits) number) ⌝ }
 {
-    if seats.has_number(number) { format!(heap, " {number}") } else { Ok(String::new(heap)) }
+    if seats.has_number(number) {
+        format!(heap, " {number}")
+    } else {
+        Ok(String::new(heap))
+    }
 }
 
 // A record in words.
@@ -80,7 +88,11 @@ fn seat_noun(entry: Entry) -> &'static str
 {
     match entry {
         Entry::Decision(seats) => {
-            if seats.bits() == 0 { "no seats" } else { "seats" }
+            if seats.bits() == 0 {
+                "no seats"
+            } else {
+                "seats"
+            }
         }
         _ => "seat",
     }

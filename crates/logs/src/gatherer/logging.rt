@@ -36,7 +36,9 @@ pub impl<L: Log> Log for Gatherer<L> as GathererLog {
         ensures holding { λ _. ⌜ now (self .exit) .holding ≡ holdingAfter (L·Log .capacity (now (self .entry) .below) - (length (L·Log .safe (now (self .entry) .below)) + length (L·Log .loose (now (self .entry) .below)))) (now (self .entry) .holding) ⌝ }
     {
         if self.below.spare() <= self.holding {
-            return Err(Full { capacity: self.below.capacity() });
+            return Err(Full {
+                capacity: self.below.capacity(),
+            });
         }
         if self.holding < HELD_RECORDS {
             self.held[self.holding] = record;

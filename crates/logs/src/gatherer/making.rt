@@ -15,7 +15,11 @@ impl<L: Log> Gatherer<L> {
         ensures loose { λ r. ⌜ looseIn L·Log r ≡ L·Log .loose below ⌝ }
     {
         let blank = Record::new(0, Entry::Decision(SeatSet::empty()));
-        Gatherer { below, held: [blank; HELD_RECORDS], holding: 0 }
+        Gatherer {
+            below,
+            held: [blank; HELD_RECORDS],
+            holding: 0,
+        }
     }
 
     // The log below.
@@ -29,7 +33,11 @@ impl<L: Log> Gatherer<L> {
     pub fn into_below(self) -> L
         ensures { λ r. ⌜ r ≡ self .below ⌝ }
     {
-        let Gatherer { below, held: _, holding: _ } = self;
+        let Gatherer {
+            below,
+            held: _,
+            holding: _,
+        } = self;
         below
     }
 

@@ -20,8 +20,16 @@ impl Tray {
         ensures safe { λ r. ⌜ safeIn r ≡ [] ⌝ }
         ensures loose { λ r. ⌜ looseIn r ≡ [] ⌝ }
     {
-        let blank = Row { transaction: 0, kind: 0, seats: 0 };
-        Tray { rows: [blank; TRAY_ROWS], secured: 0, used: 0 }
+        let blank = Row {
+            transaction: 0,
+            kind: 0,
+            seats: 0,
+        };
+        Tray {
+            rows: [blank; TRAY_ROWS],
+            secured: 0,
+            used: 0,
+        }
     }
 }
 
@@ -40,7 +48,9 @@ pub impl Log for Tray as TrayLog {
 
     fn add(&mut self, record: Record) -> Result<(), Full> {
         if self.used >= TRAY_ROWS {
-            return Err(Full { capacity: TRAY_ROWS });
+            return Err(Full {
+                capacity: TRAY_ROWS,
+            });
         }
         self.rows[self.used] = Row::of(&record);
         self.used += 1;
@@ -69,7 +79,7 @@ pub impl Log for Tray as TrayLog {
 
     fn restart(&mut self, n: u32) {
         let survivors = (self.used - self.secured).min(n as usize);
-        self.used = self.secured + survivors;
-        self.secured = self.used;
+        self.secured += survivors;
+        self.used = self.secured;
     }
 }

@@ -33,7 +33,9 @@ impl Ranges {
     fn fits(&self, offset: u8, count: u8) -> bool
         ensures { λ r. ⌜ r ≡ (leb (after 0 (held (now (self .entry)))) offset && (leb 1 count && leb (offset + count) seat-count)) ⌝ }
     {
-        offset >= self.next && count >= 1 && u16::from(offset) + u16::from(count) <= u16::from(SEATS)
+        offset >= self.next
+            && count >= 1
+            && u16::from(offset) + u16::from(count) <= u16::from(SEATS)
     }
 
     // The ranges that a count of pairs and their places write, or none where these break a rule.

@@ -17,7 +17,11 @@ impl Ranges {
     pub(crate) fn none() -> Ranges
         ensures { λ r. ⌜ held r ≡ [] ⌝ }
     {
-        Ranges { pairs: [(0, 0); PAIRS], count: 0, next: 0 }
+        Ranges {
+            pairs: [(0, 0); PAIRS],
+            count: 0,
+            next: 0,
+        }
     }
 
     // How many ranges there are.
@@ -37,7 +41,11 @@ impl Ranges {
     {
         let mut pairs = self.pairs;
         pairs[self.count] = (offset, count);
-        *self = Ranges { pairs, count: self.count + 1, next: offset + count + 1 };
+        *self = Ranges {
+            pairs,
+            count: self.count + 1,
+            next: offset + count + 1,
+        };
     }
 
     // The runs of a set of seats.
@@ -67,7 +75,9 @@ impl Ranges {
         let mut seats = SeatSet::empty();
         for i in 0..self.count {
             let (offset, count) = self.pairs[i];
-            let Some(range) = SeatSet::range(offset, count) else { unreachable() };
+            let Some(range) = SeatSet::range(offset, count) else {
+                unreachable()
+            };
             seats = seats.union(range);
         }
         seats

@@ -6,8 +6,11 @@ use seats::set::SeatSet;
 
 // The numbers of the kinds of entry, in bytes and in rows.
 const DECISION: u8 = 1;
+
 const VOTE: u8 = 2;
+
 const KEPT: u8 = 3;
+
 const UNDONE: u8 = 4;
 
 impl Entry {

@@ -63,7 +63,9 @@ impl SeatSet {
     pub fn union(self, other: SeatSet) -> SeatSet
         ensures { λ r. ⌜ ((k : ℕ) → member (r .bits) k ≡ (member (self .bits) k || member (other .bits) k)) ⌝ }
     {
-        SeatSet { bits: self.bits | other.bits }
+        SeatSet {
+            bits: self.bits | other.bits,
+        }
     }
 
     // The set with this seat too.
@@ -78,7 +80,11 @@ impl SeatSet {
         ensures { λ r. ⌜ Exactly (λ s. self .bits ≡ 2 ^ s .value) r ⌝ }
     {
         let lowest = self.lowest()?;
-        if self.bits == SeatSet::only(lowest).bits { Some(lowest) } else { None }
+        if self.bits == SeatSet::only(lowest).bits {
+            Some(lowest)
+        } else {
+            None
+        }
     }
 
     // The lowest seat of the set, if it has any: that of a set of one is the one.

@@ -11,6 +11,6 @@ unfolding runs recBytes
 returns c =
     let r = c .new .result in
     let m : modelOf r ≡ record { transaction = 7; kind = 1; seats = 39 } =
-      ap₂ (λ (t : ℕ) (e : Entry). record { transaction = t; kind = kindOf e; seats = seatsOf e }) (c .new .ensures .number) (c .new .ensures .content)
-      ∙ ap (λ (s : ℕ). record { transaction = 7; kind = 1; seats = s }) (c .from-bits-seats .ensures) in
+    ap₂ (λ (t : ℕ) (e : Entry). record { transaction = t; kind = kindOf e; seats = seatsOf e }) (c .new .ensures .number) (c .new .ensures .content)
+    ∙ ap (λ (s : ℕ). record { transaction = 7; kind = 1; seats = s }) (c .from-bits-seats .ensures) in
     c .encode .ensures ∙ ap recBytes m

@@ -34,14 +34,13 @@ returns c r =
     let la : getD bs 0 0 < 256 = omega (arith, c .typed .bytes 0) in
     let lb : getD bs 1 0 < 256 = omega (arith, c .typed .bytes 1) in
     let lc : getD bs 2 0 < 256 = omega (arith, c .typed .bytes 2) in
-    let ld : getD bs 3 0 < 256 = omega (arith, c .typed .bytes 3) in
-    (
+    let ld : getD bs 3 0 < 256 = omega (arith, c .typed .bytes 3) in (
       λ e.
-        let m = ap recOf e ∙ rec-of r in
-        same-rec w (modelOf r) (c .from-be-bytes-transaction .ensures ∙ ap (λ (x : Rec). x .transaction) m) (ap (λ (x : Rec). x .kind) m)
-        (set ∙ ap (λ (x : List Pair). bitsOf 16 (covers x)) read ∙ seats-in bs r e),
+          let m = ap recOf e ∙ rec-of r in
+          same-rec w (modelOf r) (c .from-be-bytes-transaction .ensures ∙ ap (λ (x : Rec). x .transaction) m) (ap (λ (x : Rec). x .kind) m)
+          (set ∙ ap (λ (x : List Pair). bitsOf 16 (covers x)) read ∙ seats-in bs r e),
       λ e.
-        whole bs r (c .if-bytes-ne-RECORD-BYTES .left) la lb lc ld (sym (ap (λ (x : Rec). x .transaction) e) ∙ c .from-be-bytes-transaction .ensures)
-        (c .in-Continue-ranges .ensures tt .0) (ap (λ (x : Rec). x .kind) e)
-        (sym read ∙ runs-of-ranges 16 ps (c .in-Continue-ranges .ranges .apart) ∙ ap runsOf (sym set ∙ ap (λ (x : Rec). x .seats) e)),
+          whole bs r (c .if-bytes-ne-RECORD-BYTES .left) la lb lc ld (sym (ap (λ (x : Rec). x .transaction) e) ∙ c .from-be-bytes-transaction .ensures)
+          (c .in-Continue-ranges .ensures tt .0) (ap (λ (x : Rec). x .kind) e)
+          (sym read ∙ runs-of-ranges 16 ps (c .in-Continue-ranges .ranges .apart) ∙ ap runsOf (sym set ∙ ap (λ (x : Rec). x .seats) e)),
     )

@@ -23,10 +23,10 @@ loop-b-again c =
     let high : c .hex-digit .result < 128 = rw x (digit-small (b / 16) (omega arith)) in
     let low : c .hex-digit-in-loop-b .result < 128 = rw y (digit-small (b % 16) m) in
     let e : string-bytes (c .push-in-loop-b-2 .last .self) ≡ string-bytes (c .loop-b .text) ++ (32 ∷ (c .hex-digit .result ∷ (c .hex-digit-in-loop-b .result ∷ []))) =
-      three-more (string-bytes (c .loop-b .text)) (string-bytes (c .push .last .self)) (string-bytes (c .push-in-loop-b .last .self)) (string-bytes (c .push-in-loop-b-2 .last .self)) _ _ _ _ _ _
-      (c .in-Continue-push .ensures tt .bytes) (c .push .ensures .ascii (lit< tt))
-      (c .in-Continue-push-2 .ensures tt .bytes) (c .push-in-loop-b .ensures .ascii high)
-      (c .in-Continue-push-3 .ensures tt .bytes) (c .push-in-loop-b-2 .ensures .ascii low) in
+    three-more (string-bytes (c .loop-b .text)) (string-bytes (c .push .last .self)) (string-bytes (c .push-in-loop-b .last .self)) (string-bytes (c .push-in-loop-b-2 .last .self)) _ _ _ _ _ _
+    (c .in-Continue-push .ensures tt .bytes) (c .push .ensures .ascii (lit< tt))
+    (c .in-Continue-push-2 .ensures tt .bytes) (c .push-in-loop-b .ensures .ascii high)
+    (c .in-Continue-push-3 .ensures tt .bytes) (c .push-in-loop-b-2 .ensures .ascii low) in
     let inv : string-bytes (c .loop-b .text) ≡ hexText (take i bs) = c .loop-b .inv in
     let h = hex-more bs i (c .loop-b-test .taken) in
     let r : string-bytes (c .push-in-loop-b-2 .last .self) ≡ hexText (take (i + 1) bs) = cc in

@@ -27,12 +27,13 @@ loop-i-again g c =
     let w = g .L·Log .within b in
     let a : m .loose (c .add .last .self) ≡ looseAfter (m .capacity u) (m .safe u) (m .loose u) (modelOf x) = c .add .ensures .loose in
     let more : firstOf (c .loop-i .i + 1) (c .args .records .now) ≡ fs ++ modelOf x ∷ [] =
-        firstOf-more (c .args .records .now) (c .loop-i .i) x (omega arith) ∙ ap (λ (r : Record). fs ++ modelOf r ∷ []) (sym (c .index-records-i .is)) in
-    (c .add .ensures .capacity ∙ i .0,
-     c .add .ensures .safe ∙ i .1,
-     a
-     ∙ add-step (m .capacity b) (m .capacity u) (m .safe b) (m .safe u) (m .loose b) (m .loose u) fs (modelOf x) (i .0) (i .1) (i .2) w
-     ∙ ap (fitted (m .capacity b) (m .safe b) (m .loose b)) (sym more))
+    firstOf-more (c .args .records .now) (c .loop-i .i) x (omega arith) ∙ ap (λ (r : Record). fs ++ modelOf r ∷ []) (sym (c .index-records-i .is)) in (
+      c .add .ensures .capacity ∙ i .0,
+      c .add .ensures .safe ∙ i .1,
+      a
+          ∙ add-step (m .capacity b) (m .capacity u) (m .safe b) (m .safe u) (m .loose b) (m .loose u) fs (modelOf x) (i .0) (i .1) (i .2) w
+          ∙ ap (fitted (m .capacity b) (m .safe b) (m .loose b)) (sym more),
+    )
 
 pub returns : need.returns
 returns g c =
@@ -43,4 +44,5 @@ returns g c =
     record {
       capacity = i .0;
       safe = i .1;
-      loose = i .2 ∙ ap (λ n. fitted (m .capacity b) (m .safe b) (m .loose b) (firstOf n (c .args .records .now))) e }
+      loose = i .2 ∙ ap (λ n. fitted (m .capacity b) (m .safe b) (m .loose b) (firstOf n (c .args .records .now))) e;
+    }

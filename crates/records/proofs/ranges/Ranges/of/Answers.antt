@@ -23,17 +23,17 @@ loop-k-again c =
     let r = c .loop-k .ranges in
     let i = c .loop-k .inv in
     elim (c .if-has-number .came) [
-      then-has-number w ↦
-        let y = sym (w .if-has-number .ensures tt) in
-        simp (w .ranges-is, w .width-is) (cut-in (member b) 16 k n (held r) i (member-low 16 b k (c .args .seats .small) y) y)
-    | else-has-number·then-width-gt0 w ↦
-        let no = sym (w .if-has-number .ensures tt) in
-        simp (w .ranges-is, w .width-is, w .push .ensures) (cut-shut (member b) 16 k n (held r) (r .apart) i (w .if-width-gt0 .taken) (omega arith) (λ _. no))
-    | else-has-number·else-width-gt0 w ↦
-        let no = sym (w .if-has-number .ensures tt) in
-        let z : n ≡ 0 = omega arith in
-        let i0 : Cut (member b) 16 k 0 (held r) = subst (λ x. Cut (member b) 16 k x (held r)) z i in
-        simp (w .ranges-is, w .width-is) (cut-out (member b) 16 k (held r) (r .apart) i0 (omega arith) (λ _. no))
+      | then-has-number w ↦
+          let y = sym (w .if-has-number .ensures tt) in
+          simp (w .ranges-is, w .width-is) (cut-in (member b) 16 k n (held r) i (member-low 16 b k (c .args .seats .small) y) y)
+      | else-has-number·then-width-gt0 w ↦
+          let no = sym (w .if-has-number .ensures tt) in
+          simp (w .ranges-is, w .width-is, w .push .ensures) (cut-shut (member b) 16 k n (held r) (r .apart) i (w .if-width-gt0 .taken) (omega arith) (λ _. no))
+      | else-has-number·else-width-gt0 w ↦
+          let no = sym (w .if-has-number .ensures tt) in
+          let z : n ≡ 0 = omega arith in
+          let i0 : Cut (member b) 16 k 0 (held r) = subst (λ x. Cut (member b) 16 k x (held r)) z i in
+          simp (w .ranges-is, w .width-is) (cut-out (member b) 16 k (held r) (r .apart) i0 (omega arith) (λ _. no))
     ]
 
 pub returns : need.returns

@@ -32,9 +32,9 @@ follows c i bs w l =
 pub returns-then-used-gt-PAIRS : need.returns-then-used-gt-PAIRS
 returns-then-used-gt-PAIRS c w =
     elim (c .then-used-gt-PAIRS .came) [
-      then-used-gt-PAIRS·by·then-used-gt-PAIRS v ↦ let f = w .few in omega (arith, v .if-used-gt-PAIRS .taken)
-    | then-used-gt-PAIRS·by·else-used-gt-PAIRS·then-not-unused-are-zero v ↦
-        clash (v .unused-are-zero .result) (v .unused-are-zero .ensures .1 (λ k l u. zeros (c .args .count) (c .args .cells .now) w k l)) (v .if-not-unused-are-zero .taken)
+      | then-used-gt-PAIRS·by·then-used-gt-PAIRS v ↦ let f = w .few in omega (arith, v .if-used-gt-PAIRS .taken)
+      | then-used-gt-PAIRS·by·else-used-gt-PAIRS·then-not-unused-are-zero v ↦
+          clash (v .unused-are-zero .result) (v .unused-are-zero .ensures .1 (λ k l u. zeros (c .args .count) (c .args .cells .now) w k l)) (v .if-not-unused-are-zero .taken)
     ]
 
 pub returns-then-not-fits : need.returns-then-not-fits
@@ -43,7 +43,7 @@ returns-then-not-fits c w =
     let i = c .loop-i .i in
     let e : held (c .loop-i .ranges) ≡ pairsIn i bs = c .loop-i .inv in
     let t : (leb (after 0 (held (c .loop-i .ranges))) (getD bs (2 * i) 0) && (leb 1 (getD bs (2 * i + 1) 0) && leb (getD bs (2 * i) 0 + getD bs (2 * i + 1) 0) 16)) ≡ true =
-      rw e (follows (c .args .count) i bs w (c .loop-i-test .taken)) in
+    rw e (follows (c .args .count) i bs w (c .loop-i-test .taken)) in
     clash (leb (after 0 (held (c .loop-i .ranges))) (getD bs (2 * i) 0) && (leb 1 (getD bs (2 * i + 1) 0) && leb (getD bs (2 * i) 0 + getD bs (2 * i + 1) 0) 16)) t (sym (c .if-not-fits .ensures tt))
 
 pub loop-i-again : need.loop-i-again
@@ -60,9 +60,11 @@ returns c =
     let n : c .loop-i .i ≡ c .args .count = omega arith in
     let e : held (c .loop-i .ranges) ≡ pairsIn (c .loop-i .i) bs = c .loop-i .inv in
     let f : held (c .loop-i .ranges) ≡ pairsIn (c .args .count) bs = e ∙ ap (λ (m : ℕ). pairsIn m bs) n in
-    let z = c .unused-are-zero .ensures .0 (c .if-not-unused-are-zero .left) in
-    (record {
-      few = c .if-used-gt-PAIRS .left;
-      apart = rw f at (c .loop-i .ranges .apart);
-      unused = padded-pairsIn 8 (c .args .count) bs (c .pre) (c .if-used-gt-PAIRS .left) z
-    }, f)
+    let z = c .unused-are-zero .ensures .0 (c .if-not-unused-are-zero .left) in (
+      record {
+        few = c .if-used-gt-PAIRS .left;
+        apart = rw f at (c .loop-i .ranges .apart);
+        unused = padded-pairsIn 8 (c .args .count) bs (c .pre) (c .if-used-gt-PAIRS .left) z;
+      },
+      f,
+    )

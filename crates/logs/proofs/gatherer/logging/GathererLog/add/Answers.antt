@@ -25,7 +25,8 @@ returns-then-spare-self g c =
       safe = refl;
       loose = loose-off (m .capacity b) (m .safe b) (fitted (m .capacity b) (m .safe b) (m .loose b) hs) (modelOf (c .args .record)) (omega arith);
       answer = answer-off (m .capacity b) (m .safe b) (fitted (m .capacity b) (m .safe b) (m .loose b) hs) (c .capacity .result) (c .capacity .ensures) (omega arith);
-      holding = search needs }
+      holding = search needs;
+    }
 
 pub returns-then-self-lt-HELD-RECORDS : need.returns-then-self-lt-HELD-RECORDS
 returns-then-self-lt-HELD-RECORDS g c =
@@ -41,7 +42,8 @@ returns-then-self-lt-HELD-RECORDS g c =
       safe = refl;
       loose = ap (fitted (m .capacity b) (m .safe b) (m .loose b)) (firstOf-set (t .held) (t .holding) (c .args .record) (omega arith)) ∙ sym (fitted-more (m .capacity b) (m .safe b) (m .loose b) hs (modelOf (c .args .record)) w);
       answer = answer-on (m .capacity b) (m .safe b) (fitted (m .capacity b) (m .safe b) (m .loose b) hs) (omega arith);
-      holding = search needs }
+      holding = search needs;
+    }
 
 pub returns : need.returns
 returns g c =
@@ -57,11 +59,11 @@ returns g c =
     let f = fitted-length (m .capacity b) (m .safe b) (m .loose b) hs w in
     let eight : t .holding ≡ 8 = omega arith in
     let one : firstOf 1 (set (t .held) 0 (c .args .record)) ≡ x ∷ [] =
-        firstOf-set (t .held) 0 (c .args .record) (omega arith) ∙ ap (λ (z : List Rec). mathlib.Core.List._++_ z (x ∷ [])) (firstOf-none (t .held)) in
+    firstOf-set (t .held) 0 (c .args .record) (omega arith) ∙ ap (λ (z : List Rec). mathlib.Core.List._++_ z (x ∷ [])) (firstOf-none (t .held)) in
     let new : fitted (m .capacity u) (m .safe u) (m .loose u) (firstOf 1 (set (t .held) 0 (c .args .record))) ≡ looseAfter (m .capacity u) (m .safe u) (m .loose u) x =
-        ap (fitted (m .capacity u) (m .safe u) (m .loose u)) one
-        ∙ sym (fitted-more (m .capacity u) (m .safe u) (m .loose u) [] x v)
-        ∙ ap (λ (z : List Rec). looseAfter (m .capacity u) (m .safe u) z x) (fitted-none (m .capacity u) (m .safe u) (m .loose u)) in
+    ap (fitted (m .capacity u) (m .safe u) (m .loose u)) one
+    ∙ sym (fitted-more (m .capacity u) (m .safe u) (m .loose u) [] x v)
+    ∙ ap (λ (z : List Rec). looseAfter (m .capacity u) (m .safe u) z x) (fitted-none (m .capacity u) (m .safe u) (m .loose u)) in
     let p = c .pass-down .ensures .capacity in
     let q = c .pass-down .ensures .safe in
     let r : m .loose u ≡ fitted (m .capacity b) (m .safe b) (m .loose b) (firstOf 8 (t .held)) = c .pass-down .ensures .loose in

@@ -17,4 +17,5 @@ returns g c =
       capacity = c .restart .ensures .capacity;
       safe = c .restart .ensures .safe ∙ ap (λ (z : List Rec). m .safe b ++ z) (kept-part (m .capacity b) k (m .safe b) (m .loose b) (firstOf (t .holding) (t .held)) (g .L·Log .atmost b (c .args .n)));
       loose = ap (fitted (m .capacity u) (m .safe u) (m .loose u)) (firstOf-none (t .held)) ∙ fitted-none (m .capacity u) (m .safe u) (m .loose u) ∙ c .restart .ensures .loose;
-      holding = refl }
+      holding = refl;
+    }

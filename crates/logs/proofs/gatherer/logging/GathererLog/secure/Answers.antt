@@ -19,4 +19,5 @@ returns g c =
       capacity = c .secure .ensures .capacity ∙ c .pass-down .ensures .capacity;
       safe = cc;
       loose = ap (fitted (m .capacity v) (m .safe v) (m .loose v)) (firstOf-none (t .held)) ∙ fitted-none (m .capacity v) (m .safe v) (m .loose v) ∙ c .secure .ensures .loose;
-      holding = refl }
+      holding = refl;
+    }

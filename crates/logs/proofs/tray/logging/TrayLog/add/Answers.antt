@@ -57,4 +57,5 @@ returns c =
       capacity = refl;
       safe = safeOf-add (t .secured) (t .used) rs ys m grown o (omega arith);
       loose = looseOf-add (t .secured) (t .used) rs ys m grown o (omega arith) ∙ loose-on 32 s l m (omega arith);
-      answer = answer-on 32 s l (omega arith) }
+      answer = answer-on 32 s l (omega arith);
+    }

@@ -26,4 +26,5 @@ returns c =
     record {
       capacity = refl;
       safe = safeOf-part (t .secured) (t .used) k rs (omega arith) ∙ ap (λ (j : ℕ). safeOf (t .secured) (t .used) rs ++ take j lo) same;
-      loose = looseOf-none (t .secured + k) rs }
+      loose = looseOf-none (t .secured + k) rs;
+    }

@@ -1,0 +1,2 @@
+// A log in a byte buffer.
+pub mod journal;
