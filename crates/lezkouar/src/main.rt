@@ -1,4 +1,8 @@
-// lezkouar: shows what a journal holds after a power cut, and prints the records of a journal file.
+// lezkouar: shows what a journal holds after a power cut, prints the records of a journal file, and plays with a line.
+mod carrying;
+
+use carrying::play_board;
+use carrying::play_queue;
 use journals::journal::Journal;
 use journals::journal::JournalLog;
 use logs::log::Log;
@@ -93,6 +97,18 @@ fn inspect(rt: &LibcRuntime, file: &str, count: &str) -> Result<(), AnyError> {
     }
 }
 
+// Plays on a queue of as many places as the word says.
+fn carry(rt: &LibcRuntime, places: &str) -> Result<(), AnyError> {
+    let Ok(places) = places.parse::<usize>() else {
+        let why = format!(
+            rt.alloc(),
+            "PLACES is a number of notifications, not '{places}'"
+        )?;
+        return refuse(rt, why.as_str());
+    };
+    play_queue(rt, places)
+}
+
 fn main(rt: LibcRuntime) -> Result<(), AnyError> {
     let mut words = Vec::new(rt.alloc());
     for word in env::args(&rt)?.skip(1) {
@@ -102,6 +118,8 @@ fn main(rt: LibcRuntime) -> Result<(), AnyError> {
         Command::Demonstrate => demonstrate(&rt),
         Command::Help => Ok(println!(rt, "{USAGE}")?),
         Command::Journal(file, count) => inspect(&rt, file, count),
+        Command::Queue(places) => carry(&rt, places),
+        Command::Board => play_board(&rt),
         Command::Unknown => {
             eprintln!(rt, "lezkouar: unknown command\n\n{USAGE}")?;
             Err("unknown command".into())

@@ -5,5 +5,3 @@ mod bytes;
 mod journals;
 #[cfg(test)]
 mod piles;
-#[cfg(test)]
-mod texts;

@@ -1,7 +1,7 @@
 ghost use mathlib.Core.List.{map};
 ghost use mathlib.Core.Path.{_≡_};
 ghost use Rattle.std.specs.Of.String.{string-bytes};
-ghost use Rattle.wording.specs.Calls.{askedBy, asked};
+ghost use Rattle.wording.specs.Calls.{askedOne, askedTwo, askedThree, askedBy, asked};
 
 // How the program is called.
 pub const USAGE: &str = "lezkouar: step transactions for engineering desktops
@@ -9,6 +9,8 @@ pub const USAGE: &str = "lezkouar: step transactions for engineering desktops
 usage:
   lezkouar                     show what a journal holds after a power cut
   lezkouar journal FILE COUNT  print the first COUNT records of a journal file
+  lezkouar line queue PLACES   post and take on a queue of PLACES notifications
+  lezkouar line board          post and take on a board
   lezkouar --help              print this text";
 
 // What a call of the program asks for.
@@ -20,6 +22,10 @@ pub enum Command<'a> {
     Help,
     // Print so many records of a journal file; both words as they were given.
     Journal(&'a str, &'a str),
+    // Play on a queue of so many places; the word as it was given.
+    Queue(&'a str),
+    // Play on a board.
+    Board,
     // The words are no call of the program.
     Unknown,
 }
@@ -30,11 +36,44 @@ pub fn parse(words: &[String]) -> Command<'_>
 {
     match words {
         [] => Command::Demonstrate,
-        [word] if word.as_str() == "--help" => Command::Help,
-        [word, file, count] if word.as_str() == "journal" => Command::Journal(
-            file.as_str(),
-            count.as_str(),
-        ),
+        [word] => one_word(word.as_str()),
+        [first, second] => two_words(first.as_str(), second.as_str()),
+        [first, second, third] => three_words(first.as_str(), second.as_str(), third.as_str()),
         _ => Command::Unknown,
+    }
+}
+
+// What one word asks for.
+fn one_word(word: &str) -> Command<'_>
+    ensures { λ r. ⌜ asked r ≡ askedOne (now (word .entry)) ⌝ }
+{
+    if word == "--help" {
+        Command::Help
+    } else {
+        Command::Unknown
+    }
+}
+
+// What two words ask for.
+fn two_words<'a>(first: &'a str, second: &'a str) -> Command<'a>
+    ensures { λ r. ⌜ asked r ≡ askedTwo (now (first .entry)) (now (second .entry)) ⌝ }
+{
+    if first == "line" && second == "board" {
+        Command::Board
+    } else {
+        Command::Unknown
+    }
+}
+
+// What three words ask for.
+fn three_words<'a>(first: &'a str, second: &'a str, third: &'a str) -> Command<'a>
+    ensures { λ r. ⌜ asked r ≡ askedThree (now (first .entry)) (now (second .entry)) (now (third .entry)) ⌝ }
+{
+    if first == "journal" {
+        Command::Journal(second, third)
+    } else if first == "line" && second == "queue" {
+        Command::Queue(third)
+    } else {
+        Command::Unknown
     }
 }

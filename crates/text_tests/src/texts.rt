@@ -1,7 +1,7 @@
 // What the program says, and the words of its call.
-use crate::bytes::seat;
 use records::record::Entry;
 use records::record::Record;
+use seats::seat::Seat;
 use seats::set::SeatSet;
 use std::alloc::AllocError;
 use std::alloc::Global;
@@ -10,6 +10,14 @@ use wording::call::Command;
 use wording::call::parse;
 use wording::text::describe;
 use wording::text::hex;
+
+// A seat whose number is below 16.
+fn seat(number: u8) -> Result<Seat, Fail> {
+    match Seat::new(number) {
+        Some(seat) => Ok(seat),
+        None => Err(Fail::new("no such seat")),
+    }
+}
 
 #[test]
 fn records_in_words(rt: LibcRuntime) -> Result<(), Fail> {
@@ -56,6 +64,9 @@ fn asked(heap: Global, words: &[&str]) -> Result<&'static str, AllocError> {
             Command::Help => "help",
             Command::Journal("f", "3") => "journal",
             Command::Journal(_, _) => "another journal",
+            Command::Queue("3") => "queue",
+            Command::Queue(_) => "another queue",
+            Command::Board => "board",
             Command::Unknown => "unknown",
         },
     )
@@ -68,6 +79,10 @@ fn calls_are_told_apart(rt: LibcRuntime) -> Result<(), Fail> {
     check_eq(asked(heap, &["--help"])?, "help")?;
     check_eq(asked(heap, &["journal", "f", "3"])?, "journal")?;
     check_eq(asked(heap, &["journal", "3", "f"])?, "another journal")?;
+    check_eq(asked(heap, &["line", "queue", "3"])?, "queue")?;
+    check_eq(asked(heap, &["line", "board"])?, "board")?;
+    check_eq(asked(heap, &["line", "queue"])?, "unknown")?;
+    check_eq(asked(heap, &["board", "line"])?, "unknown")?;
     check_eq(asked(heap, &["journal"])?, "unknown")?;
     check_eq(asked(heap, &["journal", "f"])?, "unknown")?;
     check_eq(asked(heap, &["journal", "f", "3", "x"])?, "unknown")?;

@@ -1,0 +1,3 @@
+pub mod MemberFacts
+pub mod RingFacts
+pub mod TakeFacts

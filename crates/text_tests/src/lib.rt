@@ -1,0 +1,3 @@
+// Examples of the program's texts and of its calls, worked out from docs/PROGRAM.md.
+#[cfg(test)]
+mod texts;

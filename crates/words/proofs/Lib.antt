@@ -1,0 +1,2 @@
+pub mod NoteFacts
+pub mod OutboxFacts
