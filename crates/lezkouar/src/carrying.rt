@@ -167,7 +167,7 @@ fn play<N: Line + Told>(rt: &LibcRuntime, line: &mut N) -> Result<(), AnyError> 
 }
 
 // Plays on a queue of so many places.
-pub fn play_queue(rt: &LibcRuntime, places: usize) -> Result<(), AnyError> {
+pub(crate) fn play_queue(rt: &LibcRuntime, places: usize) -> Result<(), AnyError> {
     let blank = Row {
         transaction: 0,
         seat: 0,
@@ -179,7 +179,7 @@ pub fn play_queue(rt: &LibcRuntime, places: usize) -> Result<(), AnyError> {
 }
 
 // Plays on a board.
-pub fn play_board(rt: &LibcRuntime) -> Result<(), AnyError> {
+pub(crate) fn play_board(rt: &LibcRuntime) -> Result<(), AnyError> {
     let mut board = Board::new();
     play(rt, &mut board)
 }

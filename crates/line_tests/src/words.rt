@@ -16,7 +16,7 @@ use words::row::RowDebug;
 use words::row::RowPartialEq;
 
 // A notification of transaction 7.
-pub fn seven(seat: u8, kind: Kind) -> Result<Notification, Fail> {
+pub(crate) fn seven(seat: u8, kind: Kind) -> Result<Notification, Fail> {
     match Seat::new(seat) {
         Some(seat) => Ok(Notification {
             transaction: 7,

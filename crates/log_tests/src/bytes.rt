@@ -32,7 +32,7 @@ fn malformed(tail: &[u8]) -> bool {
 }
 
 // A seat whose number is below 16.
-pub fn seat(number: u8) -> Result<Seat, Fail> {
+pub(crate) fn seat(number: u8) -> Result<Seat, Fail> {
     match Seat::new(number) {
         Some(seat) => Ok(seat),
         None => Err(Fail::new("no such seat")),

@@ -18,17 +18,17 @@ use std::alloc::Global;
 use std::test::*;
 
 // A vote of the seat for a transaction.
-pub fn vote(transaction: u32) -> Result<Record, Fail> {
+pub(crate) fn vote(transaction: u32) -> Result<Record, Fail> {
     Ok(Record::new(transaction, Entry::Vote(seat(3)?)))
 }
 
 // A journal over so many bytes of 0xee.
-pub fn journal(heap: Global, bytes: usize) -> Result<Journal, Fail> {
+pub(crate) fn journal(heap: Global, bytes: usize) -> Result<Journal, Fail> {
     Ok(Journal::create(vec![in heap; 0xee; bytes]?))
 }
 
 // Adds votes for the transactions from 0 on to a log, as many as there are asked for.
-pub fn fill<L: Log>(log: &mut L, count: u32) -> Result<(), Fail> {
+pub(crate) fn fill<L: Log>(log: &mut L, count: u32) -> Result<(), Fail> {
     for t in 0..count {
         let _ = log.add(vote(t)?);
     }
@@ -36,7 +36,7 @@ pub fn fill<L: Log>(log: &mut L, count: u32) -> Result<(), Fail> {
 }
 
 // Whether a log holds the votes for the transactions from 0 on, so many and no more.
-pub fn holds<L: Log>(log: &L, count: u32) -> Result<(), Fail> {
+pub(crate) fn holds<L: Log>(log: &L, count: u32) -> Result<(), Fail> {
     check_eq(log.count(), count as usize)?;
     for t in 0..count {
         check_eq(log.read(t as usize), Some(vote(t)?))?;
