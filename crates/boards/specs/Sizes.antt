@@ -1,4 +1,4 @@
--- The sizes of the lines.
+-- The size of a board.
 use Prim.Native.Nat.{ℕ, _*_}
 use Rattle.seats.specs.Sizes.{seat-count}
 

@@ -1,4 +1,6 @@
 // Plays with a line from standard input: posts and takes, and tells what each did.
+use crate::Ending;
+use crate::refuse;
 use boards::board::Board;
 use boards::board::BoardLine;
 use lines::line::Line;
@@ -149,7 +151,7 @@ fn take_step<N: Line + Told>(rt: &LibcRuntime, line: &mut N, step: Step) -> Resu
 }
 
 // Plays every line of standard input on a line of notifications.
-fn play<N: Line + Told>(rt: &LibcRuntime, line: &mut N) -> Result<(), AnyError> {
+fn play<N: Line + Told>(rt: &LibcRuntime, line: &mut N) -> Result<Ending, AnyError> {
     let mut number = 0u64;
     for text in rt.lines(rt.alloc()) {
         number = number.saturating_add(1);
@@ -158,16 +160,15 @@ fn play<N: Line + Told>(rt: &LibcRuntime, line: &mut N) -> Result<(), AnyError> 
             Ok(step) => take_step(rt, line, step)?,
             Err(slip) => {
                 let why = slip_text(slip);
-                eprintln!(rt, "lezkouar: line {number}: {why}")?;
-                return Err(why.into());
+                return refuse(rt, format!(rt.alloc(), "line {number}: {why}")?.as_str());
             }
         }
     }
-    Ok(())
+    Ok(Ending::Done)
 }
 
 // Plays on a queue of so many places.
-pub(crate) fn play_queue(rt: &LibcRuntime, places: usize) -> Result<(), AnyError> {
+pub(crate) fn play_queue(rt: &LibcRuntime, places: usize) -> Result<Ending, AnyError> {
     let blank = Row {
         transaction: 0,
         seat: 0,
@@ -179,7 +180,7 @@ pub(crate) fn play_queue(rt: &LibcRuntime, places: usize) -> Result<(), AnyError
 }
 
 // Plays on a board.
-pub(crate) fn play_board(rt: &LibcRuntime) -> Result<(), AnyError> {
+pub(crate) fn play_board(rt: &LibcRuntime) -> Result<Ending, AnyError> {
     let mut board = Board::new();
     play(rt, &mut board)
 }

@@ -18,6 +18,14 @@ use wording::demonstration::sample;
 use wording::text::describe;
 use wording::text::hex;
 
+// How a call ended that met no fault of the system's.
+enum Ending {
+    // As asked.
+    Done,
+    // Refused, and why was said.
+    Refused,
+}
+
 // Prints each record of a log: its number, its transaction, its kind and its seats.
 fn print_records<L: Log>(rt: &LibcRuntime, log: &L) -> Result<(), AnyError> {
     for i in 0..log.count() {
@@ -63,14 +71,14 @@ fn demonstrate(rt: &LibcRuntime) -> Result<(), AnyError> {
     print_records(rt, &secured)
 }
 
-// Says on standard error what is wrong, and ends with status 1.
-fn refuse(rt: &LibcRuntime, why: &str) -> Result<(), AnyError> {
+// Says on standard error what is wrong with the call.
+fn refuse(rt: &LibcRuntime, why: &str) -> Result<Ending, AnyError> {
     eprintln!(rt, "lezkouar: {why}")?;
-    Err(why.into())
+    Ok(Ending::Refused)
 }
 
 // Prints the first records of a journal file.
-fn inspect(rt: &LibcRuntime, file: &str, count: &str) -> Result<(), AnyError> {
+fn inspect(rt: &LibcRuntime, file: &str, count: &str) -> Result<Ending, AnyError> {
     let heap = rt.alloc();
     let Ok(count) = count.parse::<usize>() else {
         return refuse(
@@ -83,7 +91,10 @@ fn inspect(rt: &LibcRuntime, file: &str, count: &str) -> Result<(), AnyError> {
         Err(why) => return refuse(rt, format!(heap, "cannot read {file}: {why}")?.as_str()),
     };
     match Journal::open(bytes, count) {
-        Ok(journal) => print_records(rt, &journal),
+        Ok(journal) => {
+            print_records(rt, &journal)?;
+            Ok(Ending::Done)
+        }
         Err(refusal) => {
             let number = refusal.record;
             refuse(
@@ -98,7 +109,7 @@ fn inspect(rt: &LibcRuntime, file: &str, count: &str) -> Result<(), AnyError> {
 }
 
 // Plays on a queue of as many places as the word says.
-fn carry(rt: &LibcRuntime, places: &str) -> Result<(), AnyError> {
+fn carry(rt: &LibcRuntime, places: &str) -> Result<Ending, AnyError> {
     let Ok(places) = places.parse::<usize>() else {
         let why = format!(
             rt.alloc(),
@@ -109,20 +120,35 @@ fn carry(rt: &LibcRuntime, places: &str) -> Result<(), AnyError> {
     play_queue(rt, places)
 }
 
-fn main(rt: LibcRuntime) -> Result<(), AnyError> {
+// Does what the words of the call ask for.
+fn run(rt: &LibcRuntime) -> Result<Ending, AnyError> {
     let mut words = Vec::new(rt.alloc());
-    for word in env::args(&rt)?.skip(1) {
+    for word in env::args(rt)?.skip(1) {
         words.push(word)?;
     }
     match parse(&words) {
-        Command::Demonstrate => demonstrate(&rt),
-        Command::Help => Ok(println!(rt, "{USAGE}")?),
-        Command::Journal(file, count) => inspect(&rt, file, count),
-        Command::Queue(places) => carry(&rt, places),
-        Command::Board => play_board(&rt),
+        Command::Demonstrate => demonstrate(rt)?,
+        Command::Help => println!(rt, "{USAGE}")?,
+        Command::Journal(file, count) => return inspect(rt, file, count),
+        Command::Queue(places) => return carry(rt, places),
+        Command::Board => return play_board(rt),
         Command::Unknown => {
-            eprintln!(rt, "lezkouar: unknown command\n\n{USAGE}")?;
-            Err("unknown command".into())
+            return refuse(
+                rt,
+                format!(rt.alloc(), "unknown command\n\n{USAGE}")?.as_str(),
+            );
+        }
+    }
+    Ok(Ending::Done)
+}
+
+fn main(rt: LibcRuntime) -> Result<(), AnyError> {
+    match run(&rt) {
+        Ok(Ending::Done) => Ok(()),
+        Ok(Ending::Refused) => Err("refused".into()),
+        Err(why) => {
+            eprintln!(rt, "lezkouar: {why}")?;
+            Err(why)
         }
     }
 }

@@ -20,6 +20,7 @@ returns-in-Some g c =
     record {
       taken = c .take .ensures .waits;
       posted = joined (g .M·Line .waiting (c .args .to .now)) (g .N·Line .waiting (c .args .from .now)) (g .M·Line .waiting (c .post .last .self)) _ (c .in-Some .ensures tt .waited) (c .post .ensures .waits);
+      unposted = c .take .ensures .counted;
       counted = c .post .ensures .counted;
     }
 
@@ -28,5 +29,6 @@ returns-in-None g c =
     record {
       taken = c .take .ensures .waits;
       posted = within-left (g .M·Line .waiting (c .args .to .now)) (g .N·Line .waiting (c .args .from .now));
+      unposted = c .take .ensures .counted;
       counted = refl;
     }
