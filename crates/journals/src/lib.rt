@@ -1,2 +1,4 @@
 // A log in a byte buffer.
+#![tactic(auto)]
+
 pub mod journal;

@@ -1,4 +1,6 @@
 // lezkouar: shows what a journal holds after a power cut, prints the records of a journal file, and plays with a line or a participant.
+#![tactic(auto)]
+
 mod carrying;
 mod playing;
 mod reading;

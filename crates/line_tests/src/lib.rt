@@ -1,4 +1,6 @@
 // Code over any line, and examples of words and lines, worked out from docs/PROTOCOL.md and docs/LINES.md.
+#![tactic(auto)]
+
 ghost use Rattle.std.specs.Prelude.{◌≡◌, ◌++◌};
 ghost use Rattle.lines.specs.Lines.{Within};
 ghost use Rattle.line_tests.specs.Relays.{posts_after};

@@ -1,4 +1,6 @@
 // What every line promises, the queue and the printed trace.
+#![tactic(auto)]
+
 pub mod line;
 pub mod queue;
 pub mod trace;

@@ -1,4 +1,6 @@
 // The durable participant: a store's side of a transaction.
+#![tactic(auto)]
+
 ghost use Rattle.std.specs.Prelude.{◌≡◌};
 ghost use Rattle.agreement.specs.declared.participant.State.TheVariants.{Working};
 

@@ -1,3 +1,5 @@
 // Examples of the program's texts and of its calls, worked out from docs/PROGRAM.md.
+#![tactic(auto)]
+
 #[cfg(test)]
 mod texts;
