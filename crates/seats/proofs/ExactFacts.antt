@@ -1,5 +1,5 @@
 -- How `Exactly` is shown and used.
-use Rattle.std.proofs.Common.{◌≡◌, ℕ, Some, None, Option, refl, subst, arith}
+use Rattle.std.proofs.Common.{◌≡◌, ℕ, Some, None, refl, subst, arith}
 use Rattle.seats.specs.Exactly.{Exactly}
 
 module _ {A : Type 0} where

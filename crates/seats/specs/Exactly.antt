@@ -1,5 +1,5 @@
 -- What a reading answers.
-use Rattle.std.specs.Prelude.{◌≡◌, Some, None, Option}
+use Rattle.std.specs.Prelude.{◌≡◌, Some, Option}
 
 -- the answer is x exactly if x has the property; so it is absence exactly if nothing has it
 abbrev pub Exactly : {A : Type 0} → (A → Type 0) → Option A → Type 0

@@ -12,7 +12,7 @@ returns-in-Undone g c = scan-more _ _ _ _ _ _ _ c.count-i-end.ensures c.loop-i.i
 
 pub loop-i-preserved : goal.loop-i-preserved
 loop-i-preserved g c =
-    elim c.match-sign-at.branch [
+    elim c.match-sign_at.branch [
       | in-Vote w ↦ scan-vote _ _ _ _ _ _ _ c.count-i-end.ensures c.loop-i.invariant _ w.voted-is c.loop-i-test.true w.in-Vote.ensures
       | in-Nothing w ↦ scan-other _ _ _ _ _ _ _ c.count-i-end.ensures c.loop-i.invariant _ w.voted-is c.loop-i-test.true w.in-Nothing.ensures
     ]

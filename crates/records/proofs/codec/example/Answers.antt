@@ -11,5 +11,5 @@ returns c =
     let r = c.new.result in
     let m : model_of r ≡ record { transaction = 7; kind = 1; seats = 39 } =
     ap₂ (λ (t : ℕ) (e : Entry). record { transaction = t; kind = kind_of e; seats = seats_of e }) c.new.ensures.number c.new.ensures.content
-    ∙ ap (λ (s : ℕ). record { transaction = 7; kind = 1; seats = s }) c.from-bits-seats.ensures in
+    ∙ ap (λ (s : ℕ). record { transaction = 7; kind = 1; seats = s }) c.from_bits-seats.ensures in
     c.encode.ensures ∙ ap rec_bytes m

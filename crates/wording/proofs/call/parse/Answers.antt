@@ -8,22 +8,22 @@ returns-in-empty c = asks_none string_bytes c.args.words.now (omega (arith, ltb-
 
 pub returns-in-len1 : goal.returns-in-len1
 returns-in-len1 c =
-    c.one-word.ensures ∙ ap asked_one c.as-str.ensures.value
+    c.one_word.ensures ∙ ap asked_one c.as_str.ensures.value
     ∙ asks-one string_bytes c.args.words.now c.word-item.result (omega (arith, ltb-true, ltb-false)) c.word-item.is
 
 pub returns-in-len2 : goal.returns-in-len2
 returns-in-len2 c =
-    c.two-words.ensures ∙ ap₂ asked_two c.as-str-in-len2.ensures.value c.as-str-in-len2-2.ensures.value
+    c.two_words.ensures ∙ ap₂ asked_two c.as_str-in-len2.ensures.value c.as_str-in-len2-2.ensures.value
     ∙ asks_two string_bytes c.args.words.now c.first-item.result c.second-item.result (omega (arith, ltb-true, ltb-false)) c.first-item.is c.second-item.is
 
 pub returns-in-len3 : goal.returns-in-len3
 returns-in-len3 c =
     let z = c.third-item.result in
-    c.three-words.ensures
-    ∙ ap (λ (t : List ℕ). asked_three c.as-str-in-len3.result.now c.as-str-in-len3-2.result.now t) c.as-str-in-len3-3.ensures.value
-    ∙ ap₂ (λ (s t : List ℕ). asked_three s t (string_bytes z)) c.as-str-in-len3.ensures.value c.as-str-in-len3-2.ensures.value
+    c.three_words.ensures
+    ∙ ap (λ (t : List ℕ). asked_three c.as_str-in-len3.result.now c.as_str-in-len3-2.result.now t) c.as_str-in-len3-3.ensures.value
+    ∙ ap₂ (λ (s t : List ℕ). asked_three s t (string_bytes z)) c.as_str-in-len3.ensures.value c.as_str-in-len3-2.ensures.value
     ∙ asks-three string_bytes c.args.words.now c.first-item-then-words-lt4.result c.second-item-then-words-lt4.result z (omega (arith, ltb-true, ltb-false))
     c.first-item-then-words-lt4.is c.second-item-then-words-lt4.is c.third-item.is
 
-pub returns-in-default : goal.returns-in-default
-returns-in-default c = asks-more string_bytes c.args.words.now (omega (arith, ltb-true, ltb-false))
+pub returns-in_default : goal.returns-in_default
+returns-in_default c = asks-more string_bytes c.args.words.now (omega (arith, ltb-true, ltb-false))

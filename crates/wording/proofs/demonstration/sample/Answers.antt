@@ -8,7 +8,7 @@ use Rattle.wording.proofs.demonstration.sample.Goals as goal
 
 pub returns : goal.returns
 returns c =
-    let v = c.in-ok-vec.field-0 in
+    let v = c.in_ok-vec.field-0 in
     let j0 = c.create-journal.result in
     let j1 = c.add.new.self in
     let j2 = c.add-2.new.self in
@@ -24,7 +24,7 @@ returns c =
     let l2 : loose_in j2 ≡ m1 ∷ (m2 ∷ []) =
     added (room_in j1) (safe_in j1) (loose_in j1) (m1 ∷ []) (loose_in j2) m2 s1 l1 (omega (arith, c.add.ensures.capacity)) c.add-2.ensures.loose in
     let e1 : m1 ≡ one =
-    same-rec m1 one c.new-2.ensures.number (ap kind_of c.new-2.ensures.content) (ap seats_of c.new-2.ensures.content ∙ c.from-bits.ensures) in
+    same-rec m1 one c.new-2.ensures.number (ap kind_of c.new-2.ensures.content) (ap seats_of c.new-2.ensures.content ∙ c.from_bits.ensures) in
     let e2 : m2 ≡ two =
     same-rec m2 two c.new-3.ensures.number (ap kind_of c.new-3.ensures.content) (ap seats_of c.new-3.ensures.content ∙ ap (λ (x : ℕ). 2 ^ x) c.in-Some.ensures) in
     (c.add-2.ensures.safe ∙ s1, l2 ∙ ap (λ (x : Rec). x ∷ (m2 ∷ [])) e1 ∙ ap (λ (x : Rec). one ∷ (x ∷ [])) e2)

@@ -9,8 +9,8 @@ use Rattle.journals.proofs.journal.Journal.open.Goals as goal
 sound : (bs lent : List ℕ) (n : ℕ) → lent ≡ bs → BytesSound lent n → BytesSound bs n
 sound bs lent n e h = subst (λ (x : List ℕ). BytesSound x n) e h
 
-pub invariant-of-result : goal.invariant-of-result
-invariant-of-result c =
+pub invariant_of-result : goal.invariant_of-result
+invariant_of-result c =
     let v = c.args.bytes.ok.0 in
     let e : length c.deref.result.now ≡ vec_len c.args.bytes = c.deref.ensures.len in
     let f = c.in-None.ensures.0 in

@@ -17,7 +17,7 @@ returns c =
     let n = v.ok.0 in
     let m : length c.args.record ≡ 22 = search rules in
     record {
-      items = filled (vec_items v) c.args.record c.deref-mut.result.now c.copy-from-slice.new.self c.args.at (c.args.at + 22 - c.args.at) (vec_len v)
-          c.deref-mut.ensures.value c.copy-from-slice.ensures.after (omega arith) (sym n) m c.requires;
+      items = filled (vec_items v) c.args.record c.deref_mut.result.now c.copy_from_slice.new.self c.args.at (c.args.at + 22 - c.args.at) (vec_len v)
+          c.deref_mut.ensures.value c.copy_from_slice.ensures.after (omega arith) (sym n) m c.requires;
       len = refl;
     }

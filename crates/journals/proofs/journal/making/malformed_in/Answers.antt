@@ -17,7 +17,7 @@ loop-i-preserved c =
     let inv = c.loop-i.invariant in
     let exact : Exactly (λ (r : Record). slot bs i ≡ bytes_of r) o =
     subst (λ (x : List ℕ). Exactly (λ (r : Record). x ≡ bytes_of r) o) (slot_lent bs bs i refl) c.decode.ensures in
-    (omega arith, sound-read bs i o inv.1 exact c.if-is-none.ensures)
+    (omega arith, sound-read bs i o inv.1 exact c.if-is_none.ensures)
 
 pub returns : goal.returns
 returns c =

@@ -5,7 +5,7 @@ use Rattle.words.specs.Notes.{Note}
 use Rattle.words.specs.declared.row.Row.{Row}
 use Rattle.lines.proofs.MemberFacts.{Run, run_none, run_more, run-skip}
 use Rattle.lines.proofs.line.Line.post_all.Goals as goal
-use Rattle.lines.proofs.line.Line.post_all.Goals.{in-Some, in-default}
+use Rattle.lines.proofs.line.Line.post_all.Goals.{in-Some, in_default}
 
 pub loop-i-init : goal.loop-i-init
 loop-i-init g c = run_none g.Self.Line.waiting g.Self.Line.posts g.Self.Line.step c.args.self.now
@@ -22,9 +22,9 @@ loop-i-preserved g c =
       | in-Some w ↦
           subst (λ (x : g.row.Self.Denot). Run W P R s (notes_in (take (i + 1) rows)) x) (sym w.self-is)
           (run_more W P R s c.loop-i.self w.post.new.self rows i _ _ c.loop-i-test.true w.in-Some.ensures.note c.loop-i.invariant w.post.ensures.waits w.post.ensures.counted w.post.ensures.stepped)
-      | in-default w ↦
+      | in_default w ↦
           subst (λ (x : g.row.Self.Denot). Run W P R s (notes_in (take (i + 1) rows)) x) (sym w.self-is)
-          (run-skip W P R s c.loop-i.self rows i _ c.loop-i-test.true w.in-default.ensures.note c.loop-i.invariant)
+          (run-skip W P R s c.loop-i.self rows i _ c.loop-i-test.true w.in_default.ensures.note c.loop-i.invariant)
     ]
 
 pub returns : goal.returns

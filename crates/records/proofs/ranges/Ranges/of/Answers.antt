@@ -4,7 +4,7 @@ use Rattle.seats.specs.Sets.{member}
 use Rattle.records.proofs.PairFacts.{Cut, cut-none, cut_in, cut_out, cut-shut, runs-unique}
 use Rattle.seats.proofs.SetFacts.{member-low}
 use Rattle.records.proofs.ranges.Ranges.of.Goals as goal
-use Rattle.records.proofs.ranges.Ranges.of.Goals.{then-has-number, else-has-number+then-width-gt0, else-has-number+else-width-gt0}
+use Rattle.records.proofs.ranges.Ranges.of.Goals.{then-has_number, else-has_number+then-width-gt0, else-has_number+else-width-gt0}
 
 pub loop-k-init : goal.loop-k-init
 loop-k-init c = rw c.none-ranges.ensures (cut-none (member c.args.seats.bits) 16)
@@ -19,15 +19,15 @@ loop-k-preserved c =
     let n = c.loop-k.width in
     let r = c.loop-k.ranges in
     let i = c.loop-k.invariant in
-    elim c.if-has-number.branch [
-      | then-has-number w ↦
-          let y = sym w.if-has-number.ensures in
+    elim c.if-has_number.branch [
+      | then-has_number w ↦
+          let y = sym w.if-has_number.ensures in
           simp (w.ranges-is, w.width-is) (cut_in (member b) 16 k n (held r) i (member-low 16 b k c.args.seats.small y) y)
-      | else-has-number+then-width-gt0 w ↦
-          let no = sym w.if-has-number.ensures in
+      | else-has_number+then-width-gt0 w ↦
+          let no = sym w.if-has_number.ensures in
           simp (w.ranges-is, w.width-is, w.push.ensures) (cut-shut (member b) 16 k n (held r) r.apart i w.if-width-gt0.true (omega arith) (λ _. no))
-      | else-has-number+else-width-gt0 w ↦
-          let no = sym w.if-has-number.ensures in
+      | else-has_number+else-width-gt0 w ↦
+          let no = sym w.if-has_number.ensures in
           let z : n ≡ 0 = omega arith in
           let i0 : Cut (member b) 16 k 0 (held r) = subst (λ x. Cut (member b) 16 k x (held r)) z i in
           simp (w.ranges-is, w.width-is) (cut_out (member b) 16 k (held r) r.apart i0 (omega arith) (λ _. no))

@@ -7,15 +7,15 @@ bounds-pairs-self c =
     let s = c.args.self.now in
     push-room 8 s.pairs s.count s.few s.long s.apart c.args.offset c.args.count c.requires.begins c.requires.some c.requires.within
 
-pub invariant-of-self : goal.invariant-of-self
-invariant-of-self c =
+pub invariant_of-self : goal.invariant_of-self
+invariant_of-self c =
     let s = c.args.self.now in
     let o = c.args.offset in
     let l = c.args.count in
     let r = push-room 8 s.pairs s.count s.few s.long s.apart o l c.requires.begins c.requires.some c.requires.within in
     let p = push-parted 8 s.pairs s.count s.few s.long s.apart o l c.requires.begins c.requires.some c.requires.within in
     let a = push-after 8 s.pairs s.count s.few s.long s.apart o l c.requires.begins c.requires.some c.requires.within in
-    (length-set s.pairs s.count (o, l) ∙ s.long, (omega arith, (p, (a, tt))))
+    record { long = length-set s.pairs s.count (o, l) ∙ s.long; few = omega arith; apart = p; begins = a }
 
 pub returns : goal.returns
 returns c =

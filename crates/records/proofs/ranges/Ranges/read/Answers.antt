@@ -5,7 +5,7 @@ use Rattle.records.specs.Ranged.{held, Written}
 use Rattle.records.proofs.PairFacts.{First, clash}
 use Rattle.records.proofs.CellFacts.{padded-zero, length-pairs_in, padded-pairs_in, pairs_in-split, pairs_in-more, parted-mid}
 use Rattle.records.proofs.ranges.Ranges.read.Goals as goal
-use Rattle.records.proofs.ranges.Ranges.read.Goals.{then-used-gt-PAIRS-via-then-used-gt-PAIRS, then-used-gt-PAIRS-via-else-used-gt-PAIRS+then-not-unused-are-zero}
+use Rattle.records.proofs.ranges.Ranges.read.Goals.{then-used-gt-PAIRS-via-then-used-gt-PAIRS, then-used-gt-PAIRS-via-else-used-gt-PAIRS+then-not-unused_are_zero}
 
 -- the places behind the pairs that are written are zero
 zeros : (c : ℕ) (bs : List ℕ) → Written c bs → (k : ℕ) → 2 * c ≤ k → get_or bs k 0 ≡ 0
@@ -26,8 +26,8 @@ pub returns-then-used-gt-PAIRS : goal.returns-then-used-gt-PAIRS
 returns-then-used-gt-PAIRS c w =
     elim c.then-used-gt-PAIRS.branch [
       | then-used-gt-PAIRS-via-then-used-gt-PAIRS v ↦ let f = w.few in omega (arith, v.if-used-gt-PAIRS.true)
-      | then-used-gt-PAIRS-via-else-used-gt-PAIRS+then-not-unused-are-zero v ↦
-          clash v.unused-are-zero.result (v.unused-are-zero.ensures.1 (λ k l u. zeros c.args.count c.args.cells.now w k l)) v.if-not-unused-are-zero.true
+      | then-used-gt-PAIRS-via-else-used-gt-PAIRS+then-not-unused_are_zero v ↦
+          clash v.unused_are_zero.result (v.unused_are_zero.ensures.1 (λ k l u. zeros c.args.count c.args.cells.now w k l)) v.if-not-unused_are_zero.true
     ]
 
 pub returns-then-not-fits : goal.returns-then-not-fits
@@ -53,7 +53,7 @@ returns c =
     let n : c.loop-i.i ≡ c.args.count = omega arith in
     let e : held c.loop-i.ranges ≡ pairs_in c.loop-i.i bs = c.loop-i.invariant in
     let f : held c.loop-i.ranges ≡ pairs_in c.args.count bs = e ∙ ap (λ (m : ℕ). pairs_in m bs) n in
-    let z = c.unused-are-zero.ensures.0 c.if-not-unused-are-zero.false in (
+    let z = c.unused_are_zero.ensures.0 c.if-not-unused_are_zero.false in (
       record {
         few = c.if-used-gt-PAIRS.false;
         apart = rw f at c.loop-i.ranges.apart;

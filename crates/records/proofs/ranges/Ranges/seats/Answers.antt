@@ -15,7 +15,7 @@ unreachable-requires c =
     let n : length (take s.count s.pairs) ≡ s.count = length-take-le s.count s.pairs (omega arith) in
     let e : get_or (take s.count s.pairs) c.loop-i.i (0, 0) ≡ get_or s.pairs c.loop-i.i (0, 0) = get_or-take s.count s.pairs c.loop-i.i (0, 0) c.loop-i-test.true in
     let fits = rw e at (parted-at 0 16 (take s.count s.pairs) c.loop-i.i (0, 0) s.apart (omega arith)) in
-    let past = c.in-default.ensures in
+    let past = c.in_default.ensures in
     omega arith
 
 pub loop-i-preserved : goal.loop-i-preserved

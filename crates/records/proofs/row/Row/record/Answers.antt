@@ -12,11 +12,11 @@ pub returns : goal.returns
 returns c =
     let w = row_means c.args.self.now in
     let r = c.new.result in
-    let e = c.in-ok-entry.entry in
-    let is = exactly-has (λ (x : Entry). (w.kind ≡ kind_of x) × (c.from-bits.result.bits ≡ seats_of x)) e c.in-ok-entry.ensures in
+    let e = c.in_ok-entry.entry in
+    let is = exactly-has (λ (x : Entry). (w.kind ≡ kind_of x) × (c.from_bits.result.bits ≡ seats_of x)) e c.in_ok-entry.ensures in
     let h : e ≡ r.entry = sym c.new.ensures.content in
     let t : w.transaction ≡ r.transaction = sym c.new.ensures.number in
     let k : w.kind ≡ kind_of r.entry = is.0 ∙ ap kind_of h in
-    let s : w.seats ≡ seats_of r.entry = sym c.from-bits.ensures ∙ is.1 ∙ ap seats_of h in
+    let s : w.seats ≡ seats_of r.entry = sym c.from_bits.ensures ∙ is.1 ∙ ap seats_of h in
     let m : w ≡ model_of r = same-rec w (model_of r) t k s in
     exactly-some (λ (x : Record). w ≡ model_of x) r m (λ x q. same-model r x (sym m ∙ q))

@@ -1,4 +1,4 @@
-use Rattle.std.proofs.Common.{◌≡◌, ℕ, ◌^◌, ◌≤◌, Some, None, Option, ap, ◌∙◌, arith, MatchOption}
+use Rattle.std.proofs.Common.{◌≡◌, ℕ, ◌≤◌, Some, None, Option, ap, ◌∙◌, arith, MatchOption}
 use lib.Count.{count_trailing_zeros}
 use Rattle.seats.specs.declared.seat.Seat.{Seat}
 use Rattle.seats.proofs.SetFacts.{lowest-one}

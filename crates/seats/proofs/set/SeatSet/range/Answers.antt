@@ -16,16 +16,16 @@ range-below o l h =
     let b : 2 ^ (l + o) ≤ 2 ^ 16 = pow_mono u in
     omega arith
 
-pub overflow-cast-result : goal.overflow-cast-result
-overflow-cast-result c =
+pub overflow_cast-result : goal.overflow_cast-result
+overflow_cast-result c =
     let h : c.args.first + c.args.count ≤ 16 = omega arith in
     let b = range-below c.args.first c.args.count h in
     rw (range-is c.args.first c.args.count h) (search rules)
 
-pub invariant-of-result : goal.invariant-of-result
-invariant-of-result c =
+pub invariant_of-result : goal.invariant_of-result
+invariant_of-result c =
     let h : c.args.first + c.args.count ≤ 16 = omega arith in
-    (rw (range-is c.args.first c.args.count h) (range-below c.args.first c.args.count h), tt)
+    record { small = rw (range-is c.args.first c.args.count h) (range-below c.args.first c.args.count h) }
 
 pub returns : goal.returns
 returns c k =

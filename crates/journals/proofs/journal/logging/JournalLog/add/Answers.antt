@@ -31,8 +31,8 @@ returns-then-self-capacity c =
 put_is : (bs new b : List ℕ) (at : ℕ) (x : List ℕ) → b ≡ x → new ≡ put_mid at 22 bs b → new ≡ put_mid at 22 bs x
 put_is bs new b at x e f = f ∙ ap (put_mid at 22 bs) e
 
-pub invariant-of-self : goal.invariant-of-self
-invariant-of-self c =
+pub invariant_of-self : goal.invariant_of-self
+invariant_of-self c =
     let j = c.args.self.now in
     let r = c.args.record in
     let bs = bytes_in j in

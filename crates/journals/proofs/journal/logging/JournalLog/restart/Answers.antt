@@ -6,8 +6,8 @@ use Rattle.journals.proofs.SlotFacts.{length-recs}
 use Rattle.logs.proofs.TableFacts.{safe_of-part, loose_of-none, loose_of-length}
 use Rattle.journals.proofs.journal.logging.JournalLog.restart.Goals as goal
 
-pub invariant-of-self : goal.invariant-of-self
-invariant-of-self c =
+pub invariant_of-self : goal.invariant_of-self
+invariant_of-self c =
     let j = c.args.self.now in
     let m = c.min-survivors.ensures in
     (omega arith, (omega arith, ((λ i h. j.sound i (omega arith)), tt)))

@@ -24,8 +24,8 @@ returns-then-spare-self g c =
       holding = search rules;
     }
 
-pub returns-then-self-lt-HELD-RECORDS : goal.returns-then-self-lt-HELD-RECORDS
-returns-then-self-lt-HELD-RECORDS g c =
+pub returns-then-self-lt-HELD_RECORDS : goal.returns-then-self-lt-HELD_RECORDS
+returns-then-self-lt-HELD_RECORDS g c =
     let m = g.L.Log in
     let t = c.args.self.now in
     let b = t.below in
@@ -46,7 +46,7 @@ returns g c =
     let m = g.L.Log in
     let t = c.args.self.now in
     let b = t.below in
-    let u = c.pass-down.new.below in
+    let u = c.pass_down.new.below in
     let hs = first_of t.holding t.held in
     let x = model_of c.args.record in
     let w = g.L.Log.within b in
@@ -60,8 +60,8 @@ returns g c =
     ap (fitted (m.capacity u) (m.safe u) (m.loose u)) one
     ∙ sym (fitted-more (m.capacity u) (m.safe u) (m.loose u) [] x v)
     ∙ ap (λ (z : List Rec). loose_after (m.capacity u) (m.safe u) z x) (fitted_none (m.capacity u) (m.safe u) (m.loose u)) in
-    let p = c.pass-down.ensures.capacity in
-    let q = c.pass-down.ensures.safe in
-    let r : m.loose u ≡ fitted (m.capacity b) (m.safe b) (m.loose b) (first_of 8 t.held) = c.pass-down.ensures.loose in
+    let p = c.pass_down.ensures.capacity in
+    let q = c.pass_down.ensures.safe in
+    let r : m.loose u ≡ fitted (m.capacity b) (m.safe b) (m.loose b) (first_of 8 t.held) = c.pass_down.ensures.loose in
     let old : loose_after (m.capacity u) (m.safe u) (m.loose u) x ≡ loose_after (m.capacity b) (m.safe b) (fitted (m.capacity b) (m.safe b) (m.loose b) hs) x = cc in
     record { capacity = p; safe = q; loose = new ∙ old; answer = answer-on (m.capacity b) (m.safe b) (fitted (m.capacity b) (m.safe b) (m.loose b) hs) (omega arith); holding = search rules }

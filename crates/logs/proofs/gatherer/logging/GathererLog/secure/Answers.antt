@@ -9,13 +9,13 @@ returns g c =
     let m = g.L.Log in
     let t = c.args.self.now in
     let b = t.below in
-    let u = c.pass-down.new.below in
+    let u = c.pass_down.new.below in
     let v = c.secure.new.self in
-    let q : m.safe u ≡ m.safe b = c.pass-down.ensures.safe in
-    let r : m.loose u ≡ fitted (m.capacity b) (m.safe b) (m.loose b) (first_of t.holding t.held) = c.pass-down.ensures.loose in
+    let q : m.safe u ≡ m.safe b = c.pass_down.ensures.safe in
+    let r : m.loose u ≡ fitted (m.capacity b) (m.safe b) (m.loose b) (first_of t.holding t.held) = c.pass_down.ensures.loose in
     let s : m.safe v ≡ m.safe u ++ m.loose u = c.secure.ensures.safe in
     record {
-      capacity = c.secure.ensures.capacity ∙ c.pass-down.ensures.capacity;
+      capacity = c.secure.ensures.capacity ∙ c.pass_down.ensures.capacity;
       safe = cc;
       loose = ap (fitted (m.capacity v) (m.safe v) (m.loose v)) (first_of-none t.held) ∙ fitted_none (m.capacity v) (m.safe v) (m.loose v) ∙ c.secure.ensures.loose;
       holding = refl;

@@ -18,8 +18,8 @@ more rows n w r l is h =
     (λ i b. let ne : i ≢ n = omega arith in subst (λ (x : Row). AlienRow x → ⊥) (sym (get_or-set_other rows n i w blank_row ne)) (h i b))
     (subst (λ (x : Row). AlienRow x → ⊥) (sym (get_or-set_same rows n w blank_row l)) (λ alien. alien r is))
 
-pub returns-then-self-ge-TRAY-ROWS : goal.returns-then-self-ge-TRAY-ROWS
-returns-then-self-ge-TRAY-ROWS c =
+pub returns-then-self-ge-TRAY_ROWS : goal.returns-then-self-ge-TRAY_ROWS
+returns-then-self-ge-TRAY_ROWS c =
     let t = c.args.self.now in
     let rs = map row_means t.rows in
     let s = safe_of t.secured t.used rs in
@@ -27,8 +27,8 @@ returns-then-self-ge-TRAY-ROWS c =
     let e = both t.secured t.used rs (simp length-map (omega arith)) in
     record { capacity = refl; safe = refl; loose = loose-off 32 s l (model_of c.args.record) (omega arith); answer = answer-off 32 s l 32 refl (omega arith) }
 
-pub invariant-of-self : goal.invariant-of-self
-invariant-of-self c =
+pub invariant_of-self : goal.invariant_of-self
+invariant_of-self c =
     let t = c.args.self.now in
     let n : t.used < length t.rows = omega arith in
     (omega arith, (omega arith, (length-set t.rows t.used c.of.result ∙ t.long, (more t.rows t.used c.of.result c.args.record n c.of.ensures t.sound, tt))))

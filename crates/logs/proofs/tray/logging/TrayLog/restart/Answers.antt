@@ -5,8 +5,8 @@ use Rattle.logs.specs.Tables.{safe_of, loose_of}
 use Rattle.logs.proofs.TableFacts.{safe_of-part, loose_of-none, loose_of-length}
 use Rattle.logs.proofs.tray.logging.TrayLog.restart.Goals as goal
 
-pub invariant-of-self : goal.invariant-of-self
-invariant-of-self c =
+pub invariant_of-self : goal.invariant_of-self
+invariant_of-self c =
     let t = c.args.self.now in
     let m = c.min-survivors.ensures in
     (omega arith, (omega arith, (t.long, ((λ i h. t.sound i (omega arith)), tt))))
