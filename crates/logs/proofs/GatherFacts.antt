@@ -1,5 +1,5 @@
 -- Records that are held back over a log.
-use Rattle.std.proofs.Common.{◌≡◌, ℕ, ◌+◌, ◌-◌, ◌<◌, ◌≤◌, min, List, [], ◌∷◌, ◌++◌, map, length, get_or, take, drop, set, Some, None, Option, sym, refl, ap, ◌∙◌, ⊎_elim, arith, length-append, length-take}
+use Rattle.std.proofs.Common.{◌≡◌, ℕ, ◌+◌, ◌-◌, ◌<◌, ◌≤◌, min, List, [], ◌∷◌, ◌++◌, map, length, get_or, take, set, Some, None, sym, refl, ap, ◌∙◌, ⊎_elim, arith, length-append, length-take}
 use lib.ListN.{length-map}
 use lib.Seq.{take-nil}
 use Rattle.std.proofs.lemmas.List.{append-nil, append_assoc, take_all, take-append-le, take_more_set, map_more, map_push, length_push, get_or_append_left, get_or-append_right, get_or-take, get_or-map}

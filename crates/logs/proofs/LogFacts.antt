@@ -1,5 +1,5 @@
 -- Adding and reading, for any log.
-use Rattle.std.proofs.Common.{◌≡◌, ℕ, ◌+◌, ◌<◌, ◌≤◌, List, [], ◌∷◌, ◌++◌, length, Some, None, Ok, Err, Option, Result, sym, ap, ◌∙◌}
+use Rattle.std.proofs.Common.{◌≡◌, ℕ, ◌+◌, ◌<◌, ◌≤◌, List, [], ◌∷◌, ◌++◌, length, Some, None, Ok, Err, Option, sym, ap, ◌∙◌}
 use Rattle.std.proofs.lemmas.Bool.{cond-true, cond-false, lt-ltb, le-ltb}
 use Rattle.std.specs.Option.{option_map}
 use Rattle.seats.proofs.ExactFacts.{exactly-has, exactly-never}
@@ -7,7 +7,6 @@ use Rattle.seats.specs.Exactly.{Exactly}
 use Rattle.records.specs.Recs.{Rec, model_of}
 use Rattle.records.specs.declared.record.Record.{Record}
 use Rattle.logs.specs.Adding.{loose_after, add_answer}
-use Rattle.logs.specs.declared.log.Full.{Full}
 
 module _ (most : ℕ) (safe loose : List Rec) where
   pub loose-on : (r : Rec) → length safe + length loose < most → loose ++ r ∷ [] ≡ loose_after most safe loose r

@@ -1,5 +1,5 @@
 -- No log holds more than its capacity, and no restart keeps more than there was: what the logs of this crate owe.
-use Rattle.std.specs.Prelude.{◌≡◌, ℕ, ◌+◌, ◌-◌, ◌≤◌, min, List, ◌++◌, length, take, drop}
+use Rattle.std.specs.Prelude.{◌≡◌, ℕ, ◌+◌, ◌≤◌, min, List, length, take, drop}
 use Rattle.std.proofs.Common.{sym, ap, ◌∙◌, arith, length-append, length-take, take-append-drop}
 use Rattle.records.specs.Recs.{Rec}
 use Rattle.logs.specs.Gathering.{fitted}

@@ -1,5 +1,5 @@
 -- The rows of a table that are records'.
-use Rattle.std.specs.Prelude.{◌≡◌, ℕ, ◌<◌, List, ◌≢◌, slice_index_or}
+use Rattle.std.specs.Prelude.{ℕ, ◌<◌, List, ◌≢◌, slice_index_or}
 use Rattle.records.specs.Recs.{model_of}
 use Rattle.records.specs.Rows.{row_means}
 use Rattle.records.specs.declared.record.Record.{Record}

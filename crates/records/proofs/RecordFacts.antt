@@ -1,10 +1,10 @@
 -- Records and their bytes: the bytes tell the record.
-use Rattle.std.proofs.Common.{◌≡◌, ℕ, ◌+◌, ◌*◌, ◌/◌, ◌%◌, ◌^◌, ◌<◌, ◌≤◌, true, List, [], ◌∷◌, ◌++◌, length, get_or, take, drop, sym, refl, ap, ◌∙◌, subst, ap₂, arith}
+use Rattle.std.proofs.Common.{◌≡◌, ℕ, ◌+◌, ◌*◌, ◌/◌, ◌%◌, ◌^◌, ◌<◌, ◌≤◌, true, List, [], ◌∷◌, length, get_or, take, drop, sym, refl, ap, ◌∙◌, subst, ap₂, arith}
 use Rattle.std.proofs.lemmas.List.{take_all, length-drop}
-use Rattle.records.specs.Bytes.{word, runs_of, rec_bytes, bytes_of, rec_of}
+use Rattle.records.specs.Bytes.{runs_of, rec_bytes, bytes_of, rec_of}
 use Rattle.records.specs.Pairs.{Pair, covers, parted, runs, padded, pairs_in}
 use Rattle.records.specs.Ranged.{Written}
-use Rattle.records.specs.Recs.{Rec, kind_of, seats_of, model_of}
+use Rattle.records.specs.Recs.{kind_of, seats_of, model_of}
 use Rattle.seats.specs.Sets.{member, bits_of}
 use Rattle.seats.specs.Sizes.{seat_count}
 use Rattle.records.specs.Sizes.{pair_count}

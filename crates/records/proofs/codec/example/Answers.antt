@@ -1,7 +1,7 @@
 use Rattle.std.proofs.Common.{◌≡◌, ℕ, ap, ◌∙◌, ap₂}
 use Rattle.records.specs.Bytes.{rec_bytes}
 use Rattle.records.specs.Pairs.{runs}
-use Rattle.records.specs.Recs.{Rec, model_of, kind_of, seats_of}
+use Rattle.records.specs.Recs.{model_of, kind_of, seats_of}
 use Rattle.records.specs.declared.record.Entry.{Entry}
 use Rattle.records.proofs.codec.example.Goals as goal
 

@@ -1,11 +1,9 @@
-use Rattle.std.proofs.Common.{◌≡◌, ℕ, ◌<◌, List, length, get_or, sym, ap, ◌∙◌, subst, arith}
-use Rattle.records.specs.Bytes.{bytes_of, rec_of, runs_of, ReadsRow}
+use Rattle.std.proofs.Common.{◌≡◌, ◌<◌, List, length, get_or, sym, ap, ◌∙◌, subst, arith}
+use Rattle.records.specs.Bytes.{rec_of, runs_of, ReadsRow}
 use Rattle.records.specs.Pairs.{Pair, covers}
 use Rattle.records.specs.Ranged.{held}
-use Rattle.records.specs.Recs.{Rec, seats_of, model_of}
-use Rattle.records.specs.Rows.{row_means}
+use Rattle.records.specs.Recs.{Rec, model_of}
 use Rattle.seats.specs.Sets.{bits_of}
-use Rattle.records.specs.declared.record.Record.{Record}
 use Rattle.records.proofs.RecordFacts.{length-bytes, rec_of_lem, written_of, seats-in, runs-of-ranges, whole}
 use Rattle.records.proofs.ValueFacts.{same-rec}
 use Rattle.records.proofs.codec.read_row.Goals as goal

@@ -14,7 +14,7 @@ invariant_of-result c =
     let v = c.args.bytes.ok.0 in
     let e : length c.deref.result.now ≡ vec_len c.args.bytes = c.deref.ensures.len in
     let f = c.in-None.ensures.0 in
-    (omega arith, (omega arith, (sound (vec_items c.args.bytes) c.deref.result.now c.args.count c.deref.ensures.value c.in-None.ensures.1, tt)))
+    record { order = omega arith; fits = omega arith; sound = sound (vec_items c.args.bytes) c.deref.result.now c.args.count c.deref.ensures.value c.in-None.ensures.1 }
 
 pub returns-in-None : goal.returns-in-None
 unfolding safe_of

@@ -1,4 +1,4 @@
-use Rattle.std.proofs.Common.{◌≡◌, ℕ, ◌+◌, ◌*◌, List, get_or, take, set, sym, refl, ap, ◌∙◌, subst, arith}
+use Rattle.std.proofs.Common.{arith}
 use Rattle.records.proofs.CellFacts.{padded-more}
 use Rattle.records.proofs.ranges.Ranges.cells.Goals as goal
 

@@ -1,4 +1,4 @@
-use Rattle.std.proofs.Common.{◌≡◌, ℕ, ◌<◌, ◌≤◌, Bool, false, sym, ◌∙◌, subst, arith}
+use Rattle.std.proofs.Common.{◌≡◌, sym, subst, arith}
 use Rattle.records.specs.Ranged.{held}
 use Rattle.seats.specs.Sets.{member}
 use Rattle.records.proofs.PairFacts.{Cut, cut-none, cut_in, cut_out, cut-shut, runs-unique}

@@ -1,8 +1,8 @@
-use Rattle.std.proofs.Common.{◌≡◌, ℕ, ◌+◌, ◌-◌, ◌*◌, ◌^◌, ◌<◌, ◌≤◌, Bool, true, false, ◌&&◌, ◌||◌, ltb, leb, List, [], ◌∷◌, ◌++◌, length, get_or, take, sym, refl, ap, ◌∙◌, subst, arith, rules}
+use Rattle.std.proofs.Common.{◌≡◌, ℕ, ◌+◌, ◌*◌, ◌<◌, ◌≤◌, true, ◌&&◌, leb, List, get_or, sym, ap, ◌∙◌, arith}
 use Rattle.std.proofs.lemmas.Bool.Decides.{nat_tests}
-use Rattle.records.specs.Pairs.{Pair, parted, after, padded, pairs_in}
+use Rattle.records.specs.Pairs.{after, pairs_in}
 use Rattle.records.specs.Ranged.{held, Written}
-use Rattle.records.proofs.PairFacts.{First, clash}
+use Rattle.records.proofs.PairFacts.{clash}
 use Rattle.records.proofs.CellFacts.{padded-zero, length-pairs_in, padded-pairs_in, pairs_in-split, pairs_in-more, parted-mid}
 use Rattle.records.proofs.ranges.Ranges.read.Goals as goal
 use Rattle.records.proofs.ranges.Ranges.read.Goals.{then-used-gt-PAIRS-via-then-used-gt-PAIRS, then-used-gt-PAIRS-via-else-used-gt-PAIRS+then-not-unused_are_zero}

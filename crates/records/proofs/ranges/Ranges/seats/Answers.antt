@@ -1,7 +1,6 @@
-use Rattle.std.proofs.Common.{◌≡◌, ℕ, ◌+◌, ◌-◌, ◌*◌, ◌^◌, ◌<◌, ◌≤◌, Bool, true, false, ◌&&◌, ◌||◌, ltb, leb, List, [], ◌∷◌, ◌++◌, length, get_or, take, sym, ap, ◌∙◌, ap₂, arith, rules}
+use Rattle.std.proofs.Common.{◌≡◌, ℕ, ◌+◌, ◌&&◌, ◌||◌, ltb, leb, List, length, get_or, take, sym, ap, ◌∙◌, ap₂, arith}
 use Rattle.std.proofs.lemmas.List.{take_more, length-take-le, get_or-take}
 use Rattle.records.specs.Pairs.{Pair, covers}
-use Rattle.seats.specs.Sets.{member}
 use Rattle.records.proofs.PairFacts.{parted-at, covers-push}
 use Rattle.seats.proofs.SetFacts.{or_swap, same_bits}
 use Rattle.records.proofs.ranges.Ranges.seats.Goals as goal

@@ -1,4 +1,4 @@
-use Rattle.std.proofs.Common.{◌≡◌, ℕ, ◌+◌, ◌<◌, ◌≤◌, take}
+use Rattle.std.proofs.Common.{◌≡◌, ℕ, take}
 use Rattle.records.specs.Pairs.{covers}
 use Rattle.seats.specs.Sets.{member}
 use Rattle.records.proofs.ranges.Ranges.seats.Given as goal

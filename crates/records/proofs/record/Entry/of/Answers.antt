@@ -1,11 +1,10 @@
-use Rattle.std.proofs.Common.{◌≡◌, ℕ, ◌^◌, Some, None, sym, refl, ◌∙◌, subst}
+use Rattle.std.proofs.Common.{◌≡◌, ℕ, ◌^◌, Some, sym, refl, ◌∙◌}
 use Rattle.seats.specs.Exactly.{Exactly}
 use Rattle.records.specs.Recs.{kind_of, seats_of}
 use Rattle.records.specs.declared.record.Entry.{Entry}
 use Rattle.records.specs.declared.record.Entry.TheVariants.{Decision, Vote, Kept, Undone}
 use Rattle.seats.specs.declared.seat.Seat.{Seat}
-use Rattle.seats.specs.declared.set.SeatSet.{SeatSet}
-use Rattle.seats.proofs.ExactFacts.{exactly-some, exactly-none, exactly-has, exactly-never}
+use Rattle.seats.proofs.ExactFacts.{exactly-some}
 use Rattle.records.proofs.ValueFacts.{same-entry}
 use Rattle.records.proofs.record.Entry.of.Goals as goal
 

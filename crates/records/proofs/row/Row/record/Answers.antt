@@ -1,10 +1,9 @@
-use Rattle.std.proofs.Common.{◌≡◌, ℕ, sym, ap, ◌∙◌, subst, ap₂}
-use Rattle.seats.specs.Exactly.{Exactly}
-use Rattle.records.specs.Recs.{Rec, kind_of, seats_of, model_of}
+use Rattle.std.proofs.Common.{◌≡◌, sym, ap, ◌∙◌}
+use Rattle.records.specs.Recs.{kind_of, seats_of, model_of}
 use Rattle.records.specs.Rows.{row_means}
 use Rattle.records.specs.declared.record.Entry.{Entry}
 use Rattle.records.specs.declared.record.Record.{Record}
-use Rattle.seats.proofs.ExactFacts.{exactly-some, exactly-none, exactly-has, exactly-never}
+use Rattle.seats.proofs.ExactFacts.{exactly-some, exactly-has}
 use Rattle.records.proofs.ValueFacts.{same-model, same-rec}
 use Rattle.records.proofs.row.Row.record.Goals as goal
 

@@ -40,7 +40,7 @@ invariant_of-self c =
     let fits : 22 * j.used + 22 ≤ length bs = omega (arith, c.len-capacity.ensures) in
     let is : vec_items c.put.new.bytes ≡ put_mid (22 * j.used) 22 bs (bytes_of r) =
     put_is bs (vec_items c.put.new.bytes) c.encode.result (22 * j.used) (bytes_of r) c.encode.ensures c.put.ensures.items in
-    (omega arith, (omega (arith, c.put.ensures.len), (subst (λ (x : List ℕ). BytesSound x (j.used + 1)) (sym is) (written-sound bs j.used r fits j.sound), tt)))
+    record { order = omega arith; fits = omega (arith, c.put.ensures.len); sound = subst (λ (x : List ℕ). BytesSound x (j.used + 1)) (sym is) (written-sound bs j.used r fits j.sound) }
 
 pub returns : goal.returns
 returns c =

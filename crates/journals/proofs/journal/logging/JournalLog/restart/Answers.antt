@@ -10,7 +10,7 @@ pub invariant_of-self : goal.invariant_of-self
 invariant_of-self c =
     let j = c.args.self.now in
     let m = c.min-survivors.ensures in
-    (omega arith, (omega arith, ((λ i h. j.sound i (omega arith)), tt)))
+    record { order = omega arith; fits = omega arith; sound = λ i h. j.sound i (omega arith) }
 
 pub returns : goal.returns
 returns c =

@@ -1,4 +1,4 @@
-use Rattle.std.proofs.Common.{◌≡◌, List, [], ◌++◌, sym, refl, ap, ◌∙◌}
+use Rattle.std.proofs.Common.{List, ◌++◌, refl, ap, ◌∙◌}
 use Rattle.logs.specs.Gathering.{fitted}
 use Rattle.records.specs.Recs.{Rec}
 use Rattle.logs.specs.Gathering.{first_of}

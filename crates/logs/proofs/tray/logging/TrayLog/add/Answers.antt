@@ -31,7 +31,7 @@ pub invariant_of-self : goal.invariant_of-self
 invariant_of-self c =
     let t = c.args.self.now in
     let n : t.used < length t.rows = omega arith in
-    (omega arith, (omega arith, (length-set t.rows t.used c.of.result ∙ t.long, (more t.rows t.used c.of.result c.args.record n c.of.ensures t.sound, tt))))
+    record { order = omega arith; fits = omega arith; long = length-set t.rows t.used c.of.result ∙ t.long; sound = more t.rows t.used c.of.result c.args.record n c.of.ensures t.sound }
 
 pub returns : goal.returns
 returns c =

@@ -1,4 +1,4 @@
-use Rattle.std.proofs.Common.{◌≡◌, ℕ, ◌+◌, ◌≤◌, min, ◌++◌, map, length, take, refl, ap, ◌∙◌, arith}
+use Rattle.std.proofs.Common.{◌≡◌, ℕ, ◌+◌, min, ◌++◌, map, length, take, refl, ap, ◌∙◌, arith}
 use lib.ListN.{length-map}
 use Rattle.records.specs.Rows.{row_means}
 use Rattle.logs.specs.Tables.{safe_of, loose_of}
@@ -9,7 +9,7 @@ pub invariant_of-self : goal.invariant_of-self
 invariant_of-self c =
     let t = c.args.self.now in
     let m = c.min-survivors.ensures in
-    (omega arith, (omega arith, (t.long, ((λ i h. t.sound i (omega arith)), tt))))
+    record { order = omega arith; fits = omega arith; long = t.long; sound = λ i h. t.sound i (omega arith) }
 
 pub returns : goal.returns
 returns c =
