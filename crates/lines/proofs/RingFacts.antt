@@ -1,9 +1,9 @@
 -- A ring in a buffer: its length, a push and a pop, at any head and length.
-use Rattle.std.proofs.Common.{◌≡◌, ℕ, ◌+◌, ◌-◌, ◌<◌, ◌≤◌, min, Bool, true, false, cond, ltb, List, [], ◌∷◌, ◌++◌, length, get_or, take, drop, set, Some, None, sym, refl, ap, ◌∙◌, inl, inr, ⊎_elim, add-one, arith}
+use Rattle.std.proofs.Common.{◌≡◌, ℕ, ◌+◌, ◌-◌, ◌<◌, ◌≤◌, min, false, cond, ltb, List, [], ◌∷◌, ◌++◌, length, get_or, take, drop, set, sym, refl, ap, ◌∙◌, ⊎_elim, add-one, arith}
 use lib.Seq.{take-set-lt}
 use Rattle.std.proofs.lemmas.List.{append-nil, append_assoc, length-take, length-drop, length-append, take-set-le, drop-set-add, drop-set-lt, set-append_left, set-append_right, take_more_set, drop_more, take_more, take-append-le, drop_all, take_all}
 use Rattle.std.proofs.lemmas.Bool.{cond_below, le-ltb, lt-ltb, cases_lt}
-use Rattle.lines.specs.Ring.{turned, ring, first, rest, pushed}
+use Rattle.lines.specs.Ring.{turned, ring, pushed}
 use Rattle.lines.specs.Queues.{start_at}
 
 module _ {A : Type 0} where

@@ -1,17 +1,14 @@
 -- What a push and a pop leave waiting.
-use Rattle.std.proofs.Common.{◌≡◌, ℕ, zero, suc, ◌+◌, ◌-◌, ◌%◌, ◌<◌, ◌≤◌, Bool, true, false, cond, ltb, ◌⊎◌, List, [], ◌∷◌, ◌++◌, length, get_or, take, drop, set, is_some, IfSome, Some, None, Option, sym, refl, ap, ◌∙◌, subst, inl, inr, ⊎_elim, arith}
+use Rattle.std.proofs.Common.{◌≡◌, ℕ, Bool, true, false, cond, ltb, ◌⊎◌, List, [], ◌∷◌, ◌++◌, length, IfSome, Some, None, Option, sym, refl, ap, ◌∙◌, inl, inr, arith}
 use Rattle.std.specs.Option.{option_map}
-use Rattle.std.proofs.lemmas.List.{take_all, take-append-drop, append-nil, length-drop, get_or_append_left, get_or-append_right, get_or-drop, get_or-take}
-use Rattle.std.proofs.lemmas.Bool.{cases_lt}
 use Rattle.words.specs.declared.row.Row.{Row}
 use Rattle.words.specs.Notes.{Note}
 use Rattle.words.specs.declared.notification.Notification.{Notification}
 use Rattle.words.specs.Notes.{note_of, note_in, row_of}
-use Rattle.lines.specs.Ring.{first, rest, pushed, turned}
+use Rattle.lines.specs.Ring.{first, rest, pushed}
 use Rattle.lines.specs.Lines.{In, Within, there, notes_in}
 use Rattle.lines.specs.Queues.{offered}
-use Rattle.lines.proofs.RingFacts.{length-turned}
-use Rattle.lines.proofs.MemberFacts.{in_left, in_right, in-cases, within-eq, within-left, notes_in-append, notes_in-none}
+use Rattle.lines.proofs.MemberFacts.{within-eq, within-left, notes_in-append}
 
 module _ {A : Type 0} where
   pub in-there : (y : A) (o : Option A) (xs : List A) → In y xs → In y (there o xs)

@@ -1,5 +1,5 @@
 -- Membership, steps in their order, and the notifications of a list of rows.
-use Rattle.std.specs.Prelude.{◌≡◌, ℕ, zero, suc, ◌+◌, ◌%◌, ◌^◌, ◌⊎◌, List, [], ◌∷◌, ◌++◌, Some, None, Option}
+use Rattle.std.specs.Prelude.{◌≡◌, ℕ, zero, suc, ◌+◌, ◌%◌, ◌^◌, ◌⊎◌, List, [], ◌∷◌, Some, None, Option}
 use Rattle.words.specs.Notes.{Note, note_in}
 use Rattle.words.specs.declared.row.Row.{Row}
 

@@ -1,4 +1,4 @@
-use Rattle.std.proofs.Common.{◌≡◌, ◌+◌, List, length, take, set, sym, ap, ◌∙◌}
+use Rattle.std.proofs.Common.{◌≡◌, List, length, take, set, sym, ap, ◌∙◌}
 use Rattle.std.proofs.lemmas.List.{take_all}
 use Rattle.std.proofs.lemmas.Bool.{cond-true, le-leb}
 use Rattle.words.specs.Outboxes.{laid, rows_of}

@@ -1,7 +1,6 @@
-use Rattle.std.proofs.Common.{◌≡◌, ℕ, ◌+◌, List, length, take, sym, ap, ◌∙◌, subst}
+use Rattle.std.proofs.Common.{◌≡◌, ◌+◌, List, take, sym, subst}
 use Rattle.std.proofs.lemmas.List.{take_all}
 use Rattle.lines.specs.Lines.{notes_in}
-use Rattle.words.specs.Notes.{Note}
 use Rattle.words.specs.declared.row.Row.{Row}
 use Rattle.lines.proofs.MemberFacts.{Run, run_none, run_more, run-skip}
 use Rattle.lines.proofs.line.Line.post_all.Goals as goal

@@ -1,7 +1,7 @@
 use Rattle.std.proofs.Common.{◌≡◌, List, [], ◌∷◌, ◌++◌, sym, ap, ◌∙◌, subst}
 use Rattle.lines.specs.Lines.{Within, notes_in}
 use Rattle.words.specs.Notes.{note_of, row_of}
-use Rattle.lines.specs.Queues.{held, posted, room}
+use Rattle.lines.specs.Queues.{held, room}
 use Rattle.lines.specs.Ring.{pushed}
 use Rattle.words.specs.declared.row.Row.{Row}
 use Rattle.words.proofs.NoteFacts.{note-back}
