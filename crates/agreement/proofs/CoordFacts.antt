@@ -7,7 +7,7 @@ use Rattle.words.specs.Notes.{Note}
 use Rattle.words.specs.Kinds.{goes_up}
 use Rattle.agreement.proofs.ListFacts.{set_cases, get_or-mapped}
 use Rattle.agreement.specs.CoordinatorRules.{Coord, CoordTurn, coord, coord_room, is, gathers, is_durable, is_volatile, is_voted, is_gone, idle_volatile, idle_durable, pending_volatile, asked, voted_durable, remains, none_is, vacant_from}
-use Rattle.agreement.specs.CoordinatorRules.{ask, in_state, with_place, new_standing, starts_durable, durable_asked, readied, ask_outcome, Verdict, ignored, stands, withdraws, breaks, votes, verdict}
+use Rattle.agreement.specs.CoordinatorRules.{ask, in_state, with_place, new_standing, starts_durable, durable_asked, readied, ask_outcome, Verdict, ignored, stands, withdraws, breaks, verdict}
 use Rattle.agreement.specs.CoordinatorRules.{to_each, durable_prepares, advance, seat_at, register, by_right, volatile_asked, commit_asked, rollback_asked, ask_commit, ask_rollback, expire, resends, resend, judge, hear_noted, hear_committed, hear_decided, hear_rolled, hear_from, hear, admitted, heed, receive}
 use Rattle.agreement.specs.Names.{Kind, Prepare, Commit, Rollback, Prepared, ReadOnly, Aborted, Committed}
 use Rattle.agreement.specs.Names.{State, Active, VolatileVoting, DurableVoting, Ready, Noted, Committing, Done, Rolled}
@@ -251,8 +251,8 @@ module _ (t : ℕ) where
       within-room : (room : ℕ) (turn : CoordTurn) → Good c turn → Good c (in_room room coord_room c turn)
       within-room room turn g = cond_both (ltb room coord_room) _ _ (Good c) (λ e. silent c o) (λ e. g)
 
-      by_right : (room r : ℕ) (turn : CoordTurn) → Good c turn → Good c (by_right t room r c turn)
-      by_right room r turn g = within-room room _ (cond_both (eqb r t) _ _ (Good c) (λ e. g) (λ e. silent c o))
+      by_right_lem : (room r : ℕ) (turn : CoordTurn) → Good c turn → Good c (by_right t room r c turn)
+      by_right_lem room r turn g = within-room room _ (cond_both (eqb r t) _ _ (Good c) (λ e. g) (λ e. silent c o))
 
       active-gathers : is Active c.state ≡ true → phase c.state ≡ gathering
       active-gathers e = ap phase (is_state Active c.state e)
@@ -266,10 +266,10 @@ module _ (t : ℕ) where
           (λ x. each-given Prepare idle_volatile 0 c.table x tt)
 
       pub commit-good : (room r : ℕ) → Good c (ask_commit t room r c)
-      commit-good room r = by_right room r (commit_asked t c) (cond_both (is Active c.state) _ _ (Good c) volatile-good (λ e. silent c o))
+      commit-good room r = by_right_lem room r (commit_asked t c) (cond_both (is Active c.state) _ _ (Good c) volatile-good (λ e. silent c o))
 
       pub rollback-good : (room r : ℕ) → Good c (ask_rollback t room r c)
-      rollback-good room r = by_right room r (rollback_asked t c) (cond_both (is Active c.state) _ _ (Good c) (λ e. rolls c c.table (active-gathers e)) (λ e. silent c o))
+      rollback-good room r = by_right_lem room r (rollback_asked t c) (cond_both (is Active c.state) _ _ (Good c) (λ e. rolls c c.table (active-gathers e)) (λ e. silent c o))
 
       pub outcome-good : Good c (ask_outcome c)
       outcome-good = silent c o

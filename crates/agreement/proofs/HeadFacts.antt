@@ -7,13 +7,13 @@ use Rattle.words.specs.Notes.{Note}
 use Rattle.agreement.proofs.CoordFacts.{gathering, noted, committed, rolled, phase, clash, TableOk, CoordOk, Given, CoordGood, AllSaid, ready-said, each-given}
 use Rattle.agreement.proofs.CoordFacts as K
 use Rattle.agreement.proofs.LogFacts.{added_new, secured-all, restarted-safe, restarted-back, first-none, first_some}
-use Rattle.agreement.specs.CoordinatorRules.{Coord, coord, HeadTurn, head, coord_room, is, none_is, voted, voted_durable, done_if, found_by}
+use Rattle.agreement.specs.CoordinatorRules.{Coord, coord, HeadTurn, coord_room, is, none_is, voted, voted_durable, done_if, found_by}
 use Rattle.agreement.specs.CoordinatorRules.{decision, decides, commits, settle, restart}
 use Rattle.agreement.specs.Logs.{LogState, roomy, restarted, decision_kind, is_decision, first, Has, InLog, Without}
 use Rattle.agreement.specs.Names.{Commit}
 use Rattle.agreement.specs.Names.{State, Ready, Noted}
 use Rattle.agreement.specs.World.{Party, Mail}
-use Rattle.agreement.specs.World.{Call, expires, settles, resends, receives, restarts, coordinator}
+use Rattle.agreement.specs.World.{Call, expires, settles, resends, receives, restarts}
 use Rattle.agreement.specs.World.{head_does, Receivable}
 
 -- ── a coordinator with its log ──

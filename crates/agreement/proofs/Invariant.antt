@@ -14,9 +14,9 @@ use Rattle.agreement.proofs.ListFacts.{set_cases, set_here, blank-at}
 use Rattle.agreement.proofs.LogFacts.{fresh-own, fresh-decision}
 use Rattle.agreement.proofs.PartFacts.{VoteSafe, voted-bound, Viewing, Facts, PartOk, PartGood, MaySend}
 use Rattle.agreement.proofs.PartFacts as Q
-use Rattle.agreement.specs.CoordinatorRules.{Coord, CoordTurn, coord, HeadTurn, head, coord_room, is, outcome_of, voted, telling, opened}
-use Rattle.agreement.specs.CoordinatorRules.{decision, commits, by_right, commit_asked, rollback_asked, ask_commit, ask_rollback, ask_outcome, seat_at}
-use Rattle.agreement.specs.Logs.{LogState, vote_kind, kept_kind, undone_kind, is_decision, is_own, first, Has, Without, Fresh}
+use Rattle.agreement.specs.CoordinatorRules.{Coord, CoordTurn, HeadTurn, coord_room, outcome_of, opened}
+use Rattle.agreement.specs.CoordinatorRules.{by_right, commit_asked, rollback_asked, ask_commit, ask_rollback, ask_outcome, seat_at}
+use Rattle.agreement.specs.Logs.{LogState, vote_kind, kept_kind, undone_kind, is_decision, is_own, Has, Without, Fresh}
 use Rattle.agreement.specs.Names.{Kind, Prepare, Commit, Rollback, Prepared, ReadOnly, Aborted, Committed}
 use Rattle.agreement.specs.Names.{State, Active, VolatileVoting, DurableVoting, Ready, Noted, Committing, Done, Rolled, Durability, Volatile, Durable, Standing, Idle, Asked, Voted, Gone, Heard, Place, Vacant, Seated}
 use Rattle.agreement.specs.Names.{PartState, Working, Kept, Undone, Viewed, Unknown, Outcome, Open, ToldCommitted, ToldAborted}
@@ -185,8 +185,8 @@ module _ (t : ℕ) where
   outcome-stays Done y f g o n e = committed-told y (f refl) ∙ e
   outcome-stays Rolled y f g o n e = rolled-told y (g refl) ∙ e
 
-  by-head : (w : World) (turn : HeadTurn) → H.Good t w.office.seats w.office.mail.posted w.office.coord turn → Inv t w → Inv t (by_head w turn)
-  by-head w turn g i =
+  by_head_lem : (w : World) (turn : HeadTurn) → H.Good t w.office.seats w.office.mail.posted w.office.coord turn → Inv t w → Inv t (by_head w turn)
+  by_head_lem w turn g i =
       record {
         office = office-coord w.office turn.after.coord turn.sent g.still g.stays g.lost g.sent i.office;
         head = g.head;
@@ -220,11 +220,11 @@ module _ (t : ℕ) where
   right-honest room r c turn =
       cond_both (ltb room coord_room) _ _ HonestTurn (λ e. tt) (λ e. cond_both (eqb r t) _ _ HonestTurn (λ f. refl) (λ f. tt))
 
-  by-initiator : (w : World) (turn : CoordTurn) → CoordGood t w.office.seats w.office.mail.posted w.office.coord turn.after turn.sent → HonestTurn turn
+  by_initiator_lem : (w : World) (turn : CoordTurn) → CoordGood t w.office.seats w.office.mail.posted w.office.coord turn.after turn.sent → HonestTurn turn
       → Inv t w → Inv t (by_initiator w (apart w.log turn))
-  by-initiator w turn g h i =
+  by_initiator_lem w turn g h i =
       by-telling (by_head w (apart w.log turn)) turn.reply h
-      (by-head w (apart w.log turn) (H.onward t w.office.seats w.office.mail.posted w.log w.office.coord turn.after turn.sent g i.head) i)
+      (by_head_lem w (apart w.log turn) (H.onward t w.office.seats w.office.mail.posted w.log w.office.coord turn.after turn.sent g i.head) i)
 
   -- ── the party at one seat changes ──
   record Follows (s : ℕ) (y y' : Party) : Type 0 where
@@ -265,9 +265,9 @@ module _ (t : ℕ) where
           volatile = λ v. strangers _ volatile nobody v e refl;
         }
 
-    by_register : (turn : CoordTurn) → Registering t d q₀.coord q₀.seats q₀.mail.posted turn → Inv t (world w.log (by_register d q₀ turn) w.told)
-    by_register _ (refused f) = i
-    by_register _ (granted n e g k) =
+    by_register_lem : (turn : CoordTurn) → Registering t d q₀.coord q₀.seats q₀.mail.posted turn → Inv t (world w.log (by_register d q₀ turn) w.told)
+    by_register_lem _ (refused f) = i
+    by_register_lem _ (granted n e g k) =
         let follow = new-follows n e in
         let turn = seat_at t d q₀.coord (Some n) in
         record {
@@ -295,9 +295,9 @@ module _ (t : ℕ) where
     abbrev q₁ : Office
     q₁ = w.office
 
-    by-seat : (seat_in q₁ s ≡ nobody → ⊥) → Follows s (seat_in q₁ s) (joined p) → PartIn t q₁ s p
+    by_seat_lem : (seat_in q₁ s ≡ nobody → ⊥) → Follows s (seat_in q₁ s) (joined p) → PartIn t q₁ s p
         → ((n : Note) → In n ns → (n.seat ≡ s) × MaySend t s n.kind p.state p.log) → Inv t w → Inv t (world w.log (by_seat q₁ s p ns) w.told)
-    by-seat there f o m i =
+    by_seat_lem there f o m i =
         record {
           office = record {
             coord = λ e. record { covers = λ j h. covers j ((i.office.coord e).covers j h); places = (i.office.coord e).places };
@@ -330,11 +330,11 @@ module _ (t : ℕ) where
         covers : (j : ℕ) → seat_in q₁ j ≡ nobody → get_or (set q₁.seats s (joined p)) j nobody ≡ nobody
         covers j = turned q₁ s (joined p) f (λ j y. y ≡ nobody) (λ e. absurd (there e)) j
 
-  by-join : (w : World) (s : ℕ) (l : LogState) (y : Party) → seat_in w.office s ≡ y → Fresh t l → Inv t w → Inv t (world w.log (by_join w.office s l y) w.told)
-  by-join w s l nobody e f i = i
-  by-join w s l volatile e f i = i
-  by-join w s l awaited e f i =
-      by-seat w s (part Working l) [] (λ v. strangers _ nobody awaited v e refl)
+  by_join_lem : (w : World) (s : ℕ) (l : LogState) (y : Party) → seat_in w.office s ≡ y → Fresh t l → Inv t w → Inv t (world w.log (by_join w.office s l y) w.told)
+  by_join_lem w s l nobody e f i = i
+  by_join_lem w s l volatile e f i = i
+  by_join_lem w s l awaited e f i =
+      by_seat_lem w s (part Working l) [] (λ v. strangers _ nobody awaited v e refl)
       (record {
         voted = λ v. absurd (subst (PartyVoted t s) e v);
         viewing = λ v. absurd (subst (PartyViewing t s) e v);
@@ -346,17 +346,17 @@ module _ (t : ℕ) where
         undone = λ h. absurd (fresh-own undone_kind t s l f h);
       })
       (λ n h. absurd h) i
-  by-join w s l (joined p) e f i = i
+  by_join_lem w s l (joined p) e f i = i
 
-  by_part : (w : World) (s : ℕ) (act : Part → PartTurn) (y : Party) → seat_in w.office s ≡ y
+  by_part_lem : (w : World) (s : ℕ) (act : Part → PartTurn) (y : Party) → seat_in w.office s ≡ y
       → ((p : Part) → PartIn t w.office s p → GoodIn t w.office s p (act p))
       → Inv t w → Inv t (world w.log (by_part act w.office s y) w.told)
-  by_part w s act nobody e g i = i
-  by_part w s act volatile e g i = i
-  by_part w s act awaited e g i = i
-  by_part w s act (joined p) e g i =
+  by_part_lem w s act nobody e g i = i
+  by_part_lem w s act volatile e g i = i
+  by_part_lem w s act awaited e g i = i
+  by_part_lem w s act (joined p) e g i =
       let k = g p (i.office.parts s p e) in
-      by-seat w s (act p).after (act p).sent (λ v. strangers _ nobody (joined p) v e refl)
+      by_seat_lem w s (act p).after (act p).sent (λ v. strangers _ nobody (joined p) v e refl)
       (record {
         voted = λ v. k.voted (subst (PartyVoted t s) e v);
         viewing = λ v. k.viewing (subst (PartyViewing t s) e v);
@@ -388,13 +388,13 @@ module _ (t : ℕ) where
   coord-more c seats a b f o e =
       record { covers = (o e).covers; places = λ s. place-more t c.state a b s (get_or c.table s Vacant) f ((o e).places s) }
 
-  by-mail : (w : World) (m : Mail) → m.given ≡ w.office.mail.given
+  by_mail_lem : (w : World) (m : Mail) → m.given ≡ w.office.mail.given
       → ((n : Note) → In n w.office.mail.posted → In n m.posted)
       → ((n : Note) → In n m.posted → n.transaction ≡ t → In n w.office.mail.given ⊎ ((goes_up n.kind ≡ true) × (seat_in w.office n.seat ≡ volatile)))
       → ((n : Note) → In n m.taken → n.transaction ≡ t → In n m.posted)
       → ((n : Note) → In n m.waiting → n.transaction ≡ t → In n m.posted)
       → Inv t w → Inv t (by_mail w m)
-  by-mail w m same more p k a i =
+  by_mail_lem w m same more p k a i =
       record {
         office = record {
           coord = coord-more w.office.coord w.office.seats w.office.mail.posted m.posted more i.office.coord;
@@ -418,7 +418,7 @@ module _ (t : ℕ) where
   by-post : (w : World) (n : Note) (after : List Note) → Postable t w.office n → Within after (w.office.mail.waiting ++ n ∷ []) → Inv t w → Inv t (made t (posts n after) w)
   unfolding Within
   by-post w n after p f i =
-      by-mail w _ refl (λ m h. inr h)
+      by_mail_lem w _ refl (λ m h. inr h)
       (λ m h e. elim h [ inl q ↦ whose p m q e | inr a ↦ i.office.posted m a e ])
       (λ m h e. inr (i.office.taken m h e))
       (λ m h e. elim (in-cases m w.office.mail.waiting (n ∷ []) (f m h)) [ inl a ↦ inr (i.office.waiting m a e) | inr (inl q) ↦ inl q | inr (inr a) ↦ absurd a ])
@@ -434,7 +434,7 @@ module _ (t : ℕ) where
       → Inv t (by_mail w (record { given = w.office.mail.given; posted = w.office.mail.posted; taken = more ++ w.office.mail.taken; waiting = after }))
   unfolding Within
   by-take w more after f g i =
-      by-mail w _ refl (λ m h. h) i.office.posted
+      by_mail_lem w _ refl (λ m h. h) i.office.posted
       (λ m h e. elim (in-cases m more w.office.mail.taken h) [ inl a ↦ i.office.waiting m (f m a) e | inr a ↦ i.office.taken m a e ])
       (λ m h e. i.office.waiting m (g m h) e)
       i
@@ -442,27 +442,27 @@ module _ (t : ℕ) where
   -- ── every move ──
   pub kept : (m : Move) (w : World) → Possible t m w → Inv t w → Inv t (made t m w)
   kept (registers room d) w p i =
-      by_register d w i _ (register-good t d w.office.coord w.office.seats w.office.mail.posted i.office.coord room)
+      by_register_lem d w i _ (register-good t d w.office.coord w.office.seats w.office.mail.posted i.office.coord room)
   kept (asks_commit room r) w p i =
-      by-initiator w (ask_commit t room r w.office.coord) (K.commit-good t w.office.seats w.office.mail.posted w.office.coord i.office.coord room r) (right-honest room r w.office.coord (commit_asked t w.office.coord)) i
+      by_initiator_lem w (ask_commit t room r w.office.coord) (K.commit-good t w.office.seats w.office.mail.posted w.office.coord i.office.coord room r) (right-honest room r w.office.coord (commit_asked t w.office.coord)) i
   kept (asks_rollback room r) w p i =
-      by-initiator w (ask_rollback t room r w.office.coord) (K.rollback-good t w.office.seats w.office.mail.posted w.office.coord i.office.coord room r) (right-honest room r w.office.coord (rollback_asked t w.office.coord)) i
+      by_initiator_lem w (ask_rollback t room r w.office.coord) (K.rollback-good t w.office.seats w.office.mail.posted w.office.coord i.office.coord room r) (right-honest room r w.office.coord (rollback_asked t w.office.coord)) i
   kept asks_outcome w p i =
-      by-initiator w (ask_outcome w.office.coord) (K.outcome-good t w.office.seats w.office.mail.posted w.office.coord i.office.coord) refl i
+      by_initiator_lem w (ask_outcome w.office.coord) (K.outcome-good t w.office.seats w.office.mail.posted w.office.coord i.office.coord) refl i
   kept (coordinator a) w p i =
-      by-head w (head_does t a w.office.coord w.log) (H.call-good t w.office.seats w.office.mail.posted w.log w.office.coord i.office.coord i.head a w.office.mail p i.office.taken) i
-  kept (joins s l) w p i = by-join w s l (seat_in w.office s) refl p i
+      by_head_lem w (head_does t a w.office.coord w.log) (H.call-good t w.office.seats w.office.mail.posted w.log w.office.coord i.office.coord i.head a w.office.mail p i.office.taken) i
+  kept (joins s l) w p i = by_join_lem w s l (seat_in w.office s) refl p i
   kept (votes s room b) w p i =
-      by_part w s (part_votes t s room b) (seat_in w.office s) refl (λ q o. Q.vote-good _ _ t s q.log q.state o room b) i
-  kept (participant s a) w p i = by_part w s (part_does t s a) (seat_in w.office s) refl (part-good w s a p i) i
+      by_part_lem w s (part_votes t s room b) (seat_in w.office s) refl (λ q o. Q.vote-good _ _ t s q.log q.state o room b) i
+  kept (participant s a) w p i = by_part_lem w s (part_does t s a) (seat_in w.office s) refl (part-good w s a p i) i
   kept (posts n after) w p i = by-post w n after p.0 p.1 i
   kept (takes n after) w p i =
       by-take w (n ∷ []) after (λ m h. elim h [ inl e ↦ subst (λ (x : Note). In x w.office.mail.waiting) (sym e) p.0 | inr a ↦ absurd a ]) p.1 i
   kept (takes_nothing after) w p i = by-take w [] after (λ m h. absurd h) p i
 
   -- ── at first ──
-  at_first : (l : LogState) (waiting : List Note) → Fresh t l → Clear t waiting → Inv t (at_first l waiting)
-  at_first l waiting f g =
+  at_first_lem : (l : LogState) (waiting : List Note) → Fresh t l → Clear t waiting → Inv t (at_first l waiting)
+  at_first_lem l waiting f g =
       record {
         office = record {
           coord = λ e. record { covers = λ s h. blank-at seat_count s nobody; places = λ s. subst (PlaceOk t Active [] s) (sym (blank-at seat_count s Vacant)) tt };
@@ -478,7 +478,7 @@ module _ (t : ℕ) where
       }
 
   pub invariant : (w : World) → Reached t w → Inv t w
-  invariant _ (opening l waiting f g) = at_first l waiting f g
+  invariant _ (opening l waiting f g) = at_first_lem l waiting f g
   invariant _ (moving w m r p) = kept m w p (invariant w r)
 
   -- ── what it says ──

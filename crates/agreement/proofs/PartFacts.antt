@@ -10,7 +10,7 @@ use Rattle.agreement.specs.Names.{Kind, Prepare, Commit, Rollback, Prepared, Rea
 use Rattle.agreement.specs.Names.{PartState, Working, Voting, VoteNoted, InDoubt, Keeping, Undoing, Kept, Undone, Viewed, Unknown}
 use Rattle.agreement.specs.Names.{Ballot, VotePrepared, VoteReadOnly, VoteAborted}
 use Rattle.agreement.specs.ParticipantRules.{Part, PartTurn, part, part_room, Cell, ignores, sends, enters, leaves, adds, secures, invalid, contradicts, received, called}
-use Rattle.agreement.specs.ParticipantRules.{own_record, play, admitted, obey, heed, receive, settle, expire, resend, vote_as, vote, ended_by, found, restart}
+use Rattle.agreement.specs.ParticipantRules.{own_record, play, admitted, obey, heed, receive, settle, expire, resend, vote_as, vote, ended_by, restart}
 use Rattle.agreement.specs.Statement.{Bound}
 use Rattle.agreement.specs.States.{part_code}
 use Rattle.agreement.specs.Turns.{Report, short_outbox, misdirected, other_transaction, in_room, note}

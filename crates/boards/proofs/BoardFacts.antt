@@ -1,18 +1,17 @@
 -- What a post on a board and a search of its cells leave and find.
-use Rattle.std.proofs.Common.{◌≡◌, ℕ, zero, suc, ◌+◌, ◌-◌, ◌%◌, ◌<◌, ◌≤◌, Bool, true, false, cond, ltb, ◌⊎◌, List, [], ◌∷◌, ◌++◌, length, get_or, take, drop, set, is_some, IfSome, Some, None, Option, sym, refl, ap, ◌∙◌, subst, inl, inr, ⊎_elim, arith}
+use Rattle.std.proofs.Common.{◌≡◌, ℕ, zero, suc, ◌+◌, ◌-◌, ◌%◌, ◌<◌, ◌≤◌, true, false, List, [], ◌∷◌, ◌++◌, length, get_or, take, drop, set, is_some, IfSome, Some, None, Option, sym, refl, ap, ◌∙◌, subst, inl, ⊎_elim, arith}
 use Rattle.std.specs.Option.{option_map}
-use Rattle.std.proofs.lemmas.List.{take_all, take-append-drop, append-nil, length-drop, get_or_append_left, get_or-append_right, get_or-drop, get_or-take}
+use Rattle.std.proofs.lemmas.List.{take_all, take-append-drop, length-drop, get_or_append_left, get_or-append_right, get_or-drop, get_or-take}
 use Rattle.std.proofs.lemmas.Bool.{cases_lt}
 use Rattle.words.specs.declared.row.Row.{Row}
 use Rattle.words.specs.Notes.{Note}
 use Rattle.words.specs.declared.notification.Notification.{Notification}
 use Rattle.words.specs.Notes.{note_of, note_in, row_of}
-use Rattle.lines.specs.Ring.{first, rest, pushed, turned}
+use Rattle.lines.specs.Ring.{first, turned}
 use Rattle.boards.specs.Boards.{blank_row, skip, leading, past, moved_on}
 use Rattle.lines.specs.Lines.{In, Within, there, notes_in}
-use Rattle.lines.specs.Queues.{offered}
 use Rattle.lines.proofs.RingFacts.{length-turned}
-use Rattle.lines.proofs.MemberFacts.{in_left, in_right, in-cases, within-eq, within-left, notes_in-append, notes_in-none}
+use Rattle.lines.proofs.MemberFacts.{in_left, in_right, in-cases, notes_in-append, notes_in-none}
 use Rattle.lines.proofs.TakeFacts.{in-there, in-there-here, there-cases, in-first, waited-in}
 
 pub within-set : (b : List Row) (i : ℕ) (n : Note) → Some n ≡ note_in (row_of n) → Within (notes_in (set b i (row_of n))) (notes_in b ++ n ∷ [])

@@ -1,5 +1,5 @@
 -- The records of a journal's buffer.
-use Rattle.std.specs.Prelude.{◌≡◌, ℕ, ◌*◌, ◌/◌, ◌<◌, List, map, length, take, drop, ◌≢◌}
+use Rattle.std.specs.Prelude.{ℕ, ◌*◌, ◌/◌, ◌<◌, List, map, length, take, drop, ◌≢◌}
 use Rattle.std.specs.List.{range_with_len}
 use Rattle.records.specs.Bytes.{bytes_of, rec_of}
 use Rattle.records.specs.Recs.{Rec}

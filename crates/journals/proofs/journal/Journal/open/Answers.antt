@@ -1,7 +1,7 @@
 use Rattle.std.proofs.Common.{◌≡◌, ℕ, ◌/◌, List, length, vec_items, vec_len, refl, ap, subst, arith}
 use Rattle.std.proofs.lemmas.List.{take-take}
 use Rattle.journals.specs.Slots.{recs_in, BytesSound}
-use Rattle.logs.specs.Tables.{safe_of, loose_of}
+use Rattle.logs.specs.Tables.{safe_of}
 use Rattle.logs.proofs.TableFacts.{loose_of-none}
 use Rattle.journals.proofs.journal.Journal.open.Goals as goal
 

@@ -1,4 +1,4 @@
-use Rattle.std.proofs.Common.{◌≡◌, ℕ, List, [], ◌∷◌, ◌++◌, set, sym, refl, ap, ◌∙◌, subst, ap₂}
+use Rattle.std.proofs.Common.{◌≡◌, ℕ, List, [], ◌∷◌, ◌++◌, set, sym, refl, subst, ap₂}
 use Rattle.lines.specs.Lines.{Within, notes_in}
 use Rattle.words.specs.Notes.{note_of, row_of, cell_of}
 use Rattle.words.specs.declared.row.Row.{Row}

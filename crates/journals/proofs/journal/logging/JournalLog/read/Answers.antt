@@ -1,4 +1,4 @@
-use Rattle.std.proofs.Common.{◌≡◌, ℕ, ◌<◌, List, length, Some, sym, ap, ◌∙◌, subst, arith}
+use Rattle.std.proofs.Common.{◌≡◌, ℕ, List, Some, sym, ap, ◌∙◌, subst, arith}
 use Rattle.records.proofs.RecordFacts.{rec_of_lem}
 use Rattle.records.specs.Bytes.{bytes_of, rec_of}
 use Rattle.seats.specs.Exactly.{Exactly}

@@ -1,4 +1,4 @@
-use Rattle.std.proofs.Common.{◌≡◌, ℕ, ◌+◌, ◌/◌, ◌≤◌, min, ◌++◌, length, take, refl, ap, ◌∙◌, arith}
+use Rattle.std.proofs.Common.{◌≡◌, ℕ, ◌+◌, ◌/◌, min, ◌++◌, length, take, refl, ap, ◌∙◌, arith}
 use Rattle.journals.specs.Journals.{bytes_in}
 use Rattle.journals.specs.Slots.{recs_in}
 use Rattle.logs.specs.Tables.{safe_of, loose_of}
