@@ -1,5 +1,5 @@
 -- What the calls of a participant do, by the rules.
-use Rattle.std.specs.Prelude.{◌≡◌, ℕ, List, map, length, Ok, Err, Result}
+use Rattle.std.specs.Prelude.{◌≡◌, ℕ, List, map, Ok, Err, Result}
 use Rattle.agreement.specs.Logs.{LogState}
 use Rattle.agreement.specs.declared.participant.Ballot.{Ballot}
 use Rattle.agreement.specs.declared.participant.State.{State}

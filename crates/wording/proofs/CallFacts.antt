@@ -1,6 +1,6 @@
 -- What the words of a call ask for, by how many there are.
 use Rattle.std.proofs.Common.{◌≡◌, ℕ, ◌<◌, ◌≤◌, List, [], ◌∷◌, map, length, get_or, refl, ap, ◌∙◌, ap₂, arith}
-use Rattle.wording.specs.Calls.{Asked, demonstrate, unknown, asked_one, asked_two, asked_three, asked_by}
+use Rattle.wording.specs.Calls.{demonstrate, unknown, asked_one, asked_two, asked_three, asked_by}
 
 module _ {S : Type 0} (f : S → List ℕ) where
   pub asks_none : (ws : List S) → length ws < 1 → demonstrate ≡ asked_by (map f ws)

@@ -1,5 +1,5 @@
 -- Two records added to an empty log with room for two, and a restart.
-use Rattle.std.proofs.Common.{◌≡◌, ℕ, ◌+◌, ◌<◌, ◌≤◌, min, List, [], ◌∷◌, ◌++◌, length, take, sym, refl, ap, ◌∙◌, ⊎_elim, arith}
+use Rattle.std.proofs.Common.{◌≡◌, ℕ, ◌+◌, ◌<◌, ◌≤◌, min, List, [], ◌∷◌, ◌++◌, length, take, sym, ap, ◌∙◌, ⊎_elim, arith}
 use Rattle.logs.proofs.LogFacts.{loose-on}
 use Rattle.logs.specs.Adding.{loose_after}
 use Rattle.records.specs.Recs.{Rec}

@@ -1,4 +1,4 @@
-use Rattle.std.proofs.Common.{◌≡◌, ℕ, List, string_bytes, ap, ◌∙◌, ap₂, arith, ltb-false, ltb-true}
+use Rattle.std.proofs.Common.{ℕ, List, string_bytes, ap, ◌∙◌, ap₂, arith, ltb-false, ltb-true}
 use Rattle.wording.specs.Calls.{asked_one, asked_two, asked_three}
 use Rattle.wording.proofs.CallFacts.{asks_none, asks-one, asks_two, asks-three, asks-more}
 use Rattle.wording.proofs.call.parse.Goals as goal

@@ -1,5 +1,4 @@
-use Rattle.std.proofs.Common.{◌≡◌, ℕ, ◌/◌, min, List, [], ◌++◌, length, take, sym, refl, ap, ◌∙◌, ap₂}
-use Rattle.journals.specs.Journals.{safe_in, loose_in}
+use Rattle.std.proofs.Common.{ℕ, ◌/◌, min, List, ◌++◌, length, take, ◌∙◌, ap₂}
 use Rattle.records.specs.Recs.{Rec}
 use Rattle.wording.specs.Demonstration.{sample_recs}
 use Rattle.wording.proofs.SampleFacts.{take_min}

@@ -1,8 +1,7 @@
-use Rattle.std.proofs.Common.{◌≡◌, ℕ, ◌/◌, ◌^◌, ◌<◌, List, [], ◌∷◌, ◌++◌, length, vec_items, vec_len, sym, refl, ap, ◌∙◌, arith, rules}
+use Rattle.std.proofs.Common.{◌≡◌, ℕ, ◌/◌, ◌^◌, [], ◌∷◌, vec_len, ap, ◌∙◌, arith, rules}
 use Rattle.journals.specs.Journals.{safe_in, loose_in, room_in}
 use Rattle.records.proofs.ValueFacts.{same-rec}
 use Rattle.records.specs.Recs.{Rec, kind_of, seats_of, model_of}
-use Rattle.records.specs.declared.record.Entry.{Entry}
 use Rattle.wording.proofs.SampleFacts.{added}
 use Rattle.wording.proofs.demonstration.sample.Goals as goal
 

@@ -1,6 +1,6 @@
-use Rattle.std.proofs.Common.{◌≡◌, ℕ, ◌+◌, ◌/◌, ◌%◌, ◌<◌, List, [], ◌∷◌, ◌++◌, get_or, take, string_bytes, sym, ap, ◌∙◌, mod-lt, arith, lit<}
+use Rattle.std.proofs.Common.{◌≡◌, ℕ, ◌+◌, ◌/◌, ◌%◌, ◌<◌, [], ◌∷◌, ◌++◌, get_or, take, string_bytes, ap, ◌∙◌, mod-lt, arith, lit<}
 use Rattle.std.proofs.lemmas.List.{take_all}
-use Rattle.wording.specs.Texts.{hex_digit, hex_text}
+use Rattle.wording.specs.Texts.{hex_text}
 use Rattle.wording.proofs.TextFacts.{hex-more, three-more, digit-small}
 use Rattle.wording.proofs.text.hex.Goals as goal
 

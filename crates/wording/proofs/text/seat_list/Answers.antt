@@ -1,4 +1,4 @@
-use Rattle.std.proofs.Common.{◌≡◌, ◌+◌, List, ◌++◌, string_bytes, sym, ◌∙◌, ap₂, rules}
+use Rattle.std.proofs.Common.{◌≡◌, ◌+◌, string_bytes, rules}
 use Rattle.wording.specs.Texts.{seat_mark, seats_below}
 use Rattle.wording.proofs.TextFacts.{seats-more}
 use Rattle.wording.proofs.text.seat_list.Goals as goal
