@@ -1,9 +1,10 @@
 // Plays with a line from standard input: posts and takes, and tells what each did.
-use crate::reading::{Slip, read_notification, slip_text};
 use crate::{Ending, refuse};
 use boards::board::Board;
 use lines::line::Line;
 use lines::queue::Queue;
+use seats::seat::Seat;
+use words::kind::Kind;
 use words::notification::Notification;
 use words::row::Row;
 
@@ -43,6 +44,28 @@ enum Step {
     Nothing,
 }
 
+// Why a line of input asks for no step.
+#[derive(Clone, Copy)]
+enum Slip {
+    Word,
+    Parts,
+    Transaction,
+    Seat,
+    Kind,
+}
+
+// What is said of a slip.
+fn slip_text(slip: Slip) -> &'static str {
+    match slip {
+        Slip::Word => "a step is 'post T SEAT KIND' or 'take'",
+        Slip::Parts => "post takes a transaction, a seat and a kind",
+        Slip::Transaction => "a transaction is a number from 0 to 4294967295",
+        Slip::Seat => "a seat is a number from 0 to 15",
+        Slip::Kind =>
+            "a kind is Prepare, Commit, Rollback, Prepared, ReadOnly, Aborted or Committed",
+    }
+}
+
 // The step that a line of input asks for.
 fn read_step(text: &str) -> Result<Step, Slip> {
     let mut words = text.split(' ');
@@ -51,12 +74,35 @@ fn read_step(text: &str) -> Result<Step, Slip> {
     match (first, rest) {
         ("", (None, None, None, None)) => Ok(Step::Nothing),
         ("take", (None, None, None, None)) => Ok(Step::Take),
-        ("post", (Some(transaction), Some(seat), Some(kind), None)) => Ok(Step::Post(
-            read_notification(transaction, seat, kind)?,
-        )),
-        ("post", _) => Err(Slip::PostParts),
-        _ => Err(Slip::Step),
+        ("post", (Some(transaction), Some(seat), Some(kind), None)) => post(
+            transaction,
+            seat,
+            kind,
+        ),
+        ("post", _) => Err(Slip::Parts),
+        _ => Err(Slip::Word),
     }
+}
+
+// The post of these words.
+fn post(transaction: &str, seat: &str, kind: &str) -> Result<Step, Slip> {
+    let Ok(transaction) = transaction.parse::<u32>() else {
+        return Err(Slip::Transaction);
+    };
+    let Ok(number) = seat.parse::<u8>() else {
+        return Err(Slip::Seat);
+    };
+    let Some(seat) = Seat::new(number) else {
+        return Err(Slip::Seat);
+    };
+    let Some(kind) = Kind::from_name(kind) else {
+        return Err(Slip::Kind);
+    };
+    Ok(Step::Post(Notification {
+        transaction,
+        seat,
+        kind,
+    }))
 }
 
 // Prints what became of a notification, and the number of posts.
@@ -116,7 +162,12 @@ fn play<N: Line + Told>(rt: &HostRuntime, line: &mut N) -> anyhow::Result<Ending
 
 // Plays on a queue of so many places.
 pub(crate) fn play_queue(rt: &HostRuntime, places: usize) -> anyhow::Result<Ending> {
-    let mut rows = vec![in rt.alloc(); Row::BLANK; places]?;
+    let blank = Row {
+        transaction: 0,
+        seat: 0,
+        kind: 0,
+    };
+    let mut rows = vec![in rt.alloc(); blank; places]?;
     let mut queue = Queue::new(&mut rows);
     play(rt, &mut queue)
 }

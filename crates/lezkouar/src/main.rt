@@ -1,17 +1,13 @@
-// lezkouar: shows what a journal holds after a power cut, prints the records of a journal file, and plays with a line or a participant.
+// lezkouar: shows what a journal holds after a power cut, prints the records of a journal file, and plays with a line.
 #![tactic(auto)]
 
 mod carrying;
-mod playing;
-mod reading;
 
-use anyhow::anyhow;
 use carrying::{play_board, play_queue};
 use journals::journal::Journal;
 use logs::log::Log;
-use logs::tray::Tray;
-use playing::play_store;
 use records::codec::encode;
+use std::process::ExitCode;
 use std::{env, fs};
 use wording::call::{Command, USAGE, parse};
 use wording::demonstration::{after_cut, sample};
@@ -111,15 +107,6 @@ fn carry(rt: &HostRuntime, places: &str) -> anyhow::Result<Ending> {
     play_queue(rt, places)
 }
 
-// Plays a participant over a journal of as many bytes as the word says.
-fn play_over(rt: &HostRuntime, bytes: &str) -> anyhow::Result<Ending> {
-    let Ok(length) = bytes.parse::<usize>() else {
-        let why = format!(in rt.alloc(); "BYTES is a number of bytes, not '{bytes}'")?;
-        return refuse(rt, why.as_str());
-    };
-    play_store(rt, Journal::create(vec![in rt.alloc(); 0; length]?))
-}
-
 // Does what the words of the call ask for.
 fn run(rt: &HostRuntime) -> anyhow::Result<Ending> {
     let mut words = Vec::new(rt.alloc());
@@ -132,8 +119,6 @@ fn run(rt: &HostRuntime) -> anyhow::Result<Ending> {
         Command::Journal(file, count) => return inspect(rt, file, count),
         Command::Queue(places) => return carry(rt, places),
         Command::Board => return play_board(rt),
-        Command::ParticipantTray => return play_store(rt, Tray::new()),
-        Command::ParticipantJournal(bytes) => return play_over(rt, bytes),
         Command::Unknown => {
             return refuse(
                 rt,
@@ -144,13 +129,14 @@ fn run(rt: &HostRuntime) -> anyhow::Result<Ending> {
     Ok(Ending::Done)
 }
 
-fn main(rt: HostRuntime) -> anyhow::Result<()> {
+fn main(rt: HostRuntime) -> ExitCode {
     match run(&rt) {
-        Ok(Ending::Done) => Ok(()),
-        Ok(Ending::Refused) => Err(anyhow!("refused")),
+        Ok(Ending::Done) => ExitCode::SUCCESS,
+        Ok(Ending::Refused) => ExitCode::FAILURE,
         Err(why) => {
-            eprintln!(rt; "lezkouar: {why}")?;
-            Err(why)
+            // where standard error can't be written to either, the status alone tells
+            let _ = eprintln!(rt; "lezkouar: {why}");
+            ExitCode::FAILURE
         }
     }
 }

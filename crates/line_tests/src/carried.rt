@@ -9,6 +9,15 @@ use std::test::Fail;
 use words::kind::Kind;
 use words::row::Row;
 
+// A row that is no notification's.
+fn blank() -> Row {
+    Row {
+        transaction: 0,
+        seat: 0,
+        kind: 0,
+    }
+}
+
 #[test]
 fn an_empty_buffer_drops_all(rt: HostRuntime) -> Result<(), Fail> {
     let mut none: [Row; 0] = [];
@@ -22,7 +31,7 @@ fn an_empty_buffer_drops_all(rt: HostRuntime) -> Result<(), Fail> {
 
 #[test]
 fn one_place_holds_the_oldest(rt: HostRuntime) -> Result<(), Fail> {
-    let mut rows = [Row::BLANK; 1];
+    let mut rows = [blank(); 1];
     let mut queue = Queue::new(&mut rows);
     queue.post(seven(1, Kind::Prepare)?);
     queue.post(seven(2, Kind::Prepare)?);
@@ -37,7 +46,7 @@ fn one_place_holds_the_oldest(rt: HostRuntime) -> Result<(), Fail> {
 
 #[test]
 fn a_queue_goes_round_in_order(rt: HostRuntime) -> Result<(), Fail> {
-    let mut rows = [Row::BLANK; 3];
+    let mut rows = [blank(); 3];
     let mut queue = Queue::new(&mut rows);
     queue.post(seven(0, Kind::Prepare)?);
     queue.post(seven(1, Kind::Prepare)?);
@@ -55,11 +64,11 @@ fn a_queue_goes_round_in_order(rt: HostRuntime) -> Result<(), Fail> {
 
 #[test]
 fn rows_are_posted_in_their_order(rt: HostRuntime) -> Result<(), Fail> {
-    let mut rows = [Row::BLANK; 4];
+    let mut rows = [blank(); 4];
     let mut queue = Queue::new(&mut rows);
     queue.post_all(&[
         Row::of(seven(4, Kind::Commit)?),
-        Row::BLANK,
+        blank(),
         Row::of(seven(2, Kind::Rollback)?),
     ]);
     assert_eq!(rt; queue.posts(), 2);
@@ -111,7 +120,7 @@ fn a_board_overwrites_its_cell_alone(rt: HostRuntime) -> Result<(), Fail> {
 
 #[test]
 fn a_relay_joins_two_lines(rt: HostRuntime) -> Result<(), Fail> {
-    let mut rows = [Row::BLANK; 2];
+    let mut rows = [blank(); 2];
     let mut queue = Queue::new(&mut rows);
     let mut board = Board::new();
     assert!(rt; !relay(&mut queue, &mut board));

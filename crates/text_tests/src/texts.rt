@@ -64,9 +64,6 @@ fn asked(heap: Global, words: &[&str]) -> Result<&'static str, AllocError> {
         Command::Queue("3") => "queue",
         Command::Queue(_) => "another queue",
         Command::Board => "board",
-        Command::ParticipantTray => "participant tray",
-        Command::ParticipantJournal("44") => "participant journal",
-        Command::ParticipantJournal(_) => "another participant journal",
         Command::Unknown => "unknown",
     })
 }
@@ -81,13 +78,6 @@ fn calls_are_told_apart(rt: HostRuntime) -> Result<(), Fail> {
     assert_eq!(rt; asked(heap, &["line", "queue", "3"])?, "queue");
     assert_eq!(rt; asked(heap, &["line", "board"])?, "board");
     assert_eq!(rt; asked(heap, &["line", "queue"])?, "unknown");
-    assert_eq!(rt; asked(heap, &["participant", "tray"])?, "participant tray");
-    assert_eq!(rt;
-        asked(heap, &["participant", "journal", "44"])?,
-        "participant journal"
-    );
-    assert_eq!(rt; asked(heap, &["participant", "tray", "44"])?, "unknown");
-    assert_eq!(rt; asked(heap, &["participant", "board"])?, "unknown");
     assert_eq!(rt; asked(heap, &["board", "line"])?, "unknown");
     assert_eq!(rt; asked(heap, &["journal"])?, "unknown");
     assert_eq!(rt; asked(heap, &["journal", "f"])?, "unknown");

@@ -1,8 +1,8 @@
 -- The words of a call, and what they ask for.
-use Rattle.std.specs.Prelude.{ℕ, cond, List, [], ◌∷◌, codes}
+use Rattle.std.specs.Prelude.{ℕ, cond, ◌&&◌, List, [], ◌∷◌, codes}
 use Rattle.std.specs.Str.{bytes_eq}
 use Rattle.wording.specs.declared.call.Command.{Command}
-use Rattle.wording.specs.declared.call.Command.TheVariants.{Demonstrate, Help, Journal, Queue, Board, ParticipantTray, ParticipantJournal, Unknown}
+use Rattle.wording.specs.declared.call.Command.TheVariants.{Demonstrate, Help, Journal, Queue, Board, Unknown}
 
 pub data Asked : Type 0 where
   demonstrate : Asked
@@ -10,8 +10,6 @@ pub data Asked : Type 0 where
   journal : List ℕ → List ℕ → Asked
   queue : List ℕ → Asked
   board : Asked
-  participant_tray : Asked
-  participant_journal : List ℕ → Asked
   unknown : Asked
 
 -- what a command asks for, with the texts of its words
@@ -21,35 +19,17 @@ asked Help = help
 asked (Journal file count) = journal file.now count.now
 asked (Queue places) = queue places.now
 asked Board = board
-asked ParticipantTray = participant_tray
-asked (ParticipantJournal bytes) = participant_journal bytes.now
 asked Unknown = unknown
 
 abbrev pub asked_one : List ℕ → Asked
 asked_one w = cond (bytes_eq w (codes "--help")) help unknown
 
--- a word behind `line`, and one behind `participant`
-abbrev pub asked_line : List ℕ → Asked
-asked_line w = cond (bytes_eq w (codes "board")) board unknown
-
-abbrev pub asked_participant : List ℕ → Asked
-asked_participant w = cond (bytes_eq w (codes "tray")) participant_tray unknown
-
 abbrev pub asked_two : List ℕ → List ℕ → Asked
-asked_two w x =
-    cond (bytes_eq w (codes "line")) (asked_line x) (cond (bytes_eq w (codes "participant")) (asked_participant x) unknown)
-
--- two words behind them
-abbrev pub asked_line_of : List ℕ → List ℕ → Asked
-asked_line_of w x = cond (bytes_eq w (codes "queue")) (queue x) unknown
-
-abbrev pub asked_participant_of : List ℕ → List ℕ → Asked
-asked_participant_of w x = cond (bytes_eq w (codes "journal")) (participant_journal x) unknown
+asked_two w x = cond (bytes_eq w (codes "line") && bytes_eq x (codes "board")) board unknown
 
 abbrev pub asked_three : List ℕ → List ℕ → List ℕ → Asked
 asked_three w x y =
-    cond (bytes_eq w (codes "journal")) (journal x y)
-    (cond (bytes_eq w (codes "line")) (asked_line_of x y) (cond (bytes_eq w (codes "participant")) (asked_participant_of x y) unknown))
+    cond (bytes_eq w (codes "journal")) (journal x y) (cond (bytes_eq w (codes "line") && bytes_eq x (codes "queue")) (queue y) unknown)
 
 -- by the number of words
 abbrev pub asked_by : List (List ℕ) → Asked
