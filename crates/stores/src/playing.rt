@@ -1,6 +1,6 @@
 // Plays a durable participant from standard input: each line is a call, and what it did is told.
 use crate::reading::{Slip, read_notification, slip_text};
-use crate::{Ending, print_records, refuse};
+use crate::{Ending, refuse};
 use agreement::participant::{Ballot, State};
 use lines::queue::Queue;
 use lines::trace::TraceEntry;
@@ -9,6 +9,7 @@ use participant::Participant;
 use records::record::{Entry, Record};
 use seats::seat::Seat;
 use seats::set::SeatSet;
+use wording::text::describe;
 use words::fault::Fault;
 use words::kind::Kind;
 use words::notification::Notification;
@@ -21,14 +22,8 @@ const SEAT: u8 = 0;
 
 const OTHER_TRANSACTION: u32 = 8;
 
-// How many places the outbox has at most, and what an empty one holds.
+// How many places the outbox has at most.
 const PLACES: usize = 16;
-
-const BLANK: Row = Row {
-    transaction: 0,
-    seat: 0,
-    kind: 0,
-};
 
 // What a line of input asks for.
 #[derive(Clone, Copy)]
@@ -121,6 +116,17 @@ fn read_with(first: &str, word: &str, seat: Seat) -> Result<Act, Slip> {
         },
         _ => Err(Slip::Act),
     }
+}
+
+// Prints each record of a log: its number, its transaction, its kind and its seats.
+fn print_records<L: Log>(rt: &HostRuntime, log: &L) -> anyhow::Result<()> {
+    for i in 0..log.count() {
+        if let Some(record) = log.read(i) {
+            let words = describe(rt.alloc(), &record)?;
+            println!(rt; "  record {i}: {words}")?;
+        }
+    }
+    Ok(())
 }
 
 // Adds records of another transaction to a log, as far as they fit.

@@ -6,8 +6,6 @@ use words::notification::Notification;
 // Why a line of input asks for nothing that there is.
 #[derive(Clone, Copy)]
 pub(crate) enum Slip {
-    Step,
-    PostParts,
     Act,
     ReceiveParts,
     Transaction,
@@ -22,8 +20,6 @@ pub(crate) enum Slip {
 // What is said of a slip.
 pub(crate) fn slip_text(slip: Slip) -> &'static str {
     match slip {
-        Slip::Step => "a step is 'post T SEAT KIND' or 'take'",
-        Slip::PostParts => "post takes a transaction, a seat and a kind",
         Slip::Act =>
             "a call is 'receive', 'vote', 'settle', 'expire', 'resend', 'cut N', 'outbox N', 'fill N' or 'log'",
         Slip::ReceiveParts => "receive takes a kind, or a transaction, a seat and a kind",
