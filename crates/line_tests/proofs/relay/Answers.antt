@@ -1,4 +1,4 @@
-use Rattle.std.proofs.Common.{◌≡◌, ◌⊎◌, List, [], ◌∷◌, ◌++◌, sym, refl, subst, inl, inr, ⊎_elim}
+use Rattle.std.proofs.Common.{List, [], ◌∷◌, ◌++◌, sym, refl, subst, inl, inr, ⊎_elim}
 use Rattle.lines.proofs.MemberFacts.{in_left, in_right, in-cases, within-left}
 use Rattle.lines.specs.Lines.{In, Within}
 use Rattle.words.specs.Notes.{Note}
