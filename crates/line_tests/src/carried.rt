@@ -1,6 +1,6 @@
 // The queue, the trace and the board.
 use crate::relay;
-use crate::words::seven;
+use crate::word_examples::seven;
 use boards::board::Board;
 use lines::line::Line;
 use lines::queue::Queue;

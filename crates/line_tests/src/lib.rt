@@ -10,7 +10,7 @@ use lines::line::Line;
 #[cfg(test)]
 mod carried;
 #[cfg(test)]
-mod words;
+mod word_examples;
 
 // Takes one notification from a line and posts it on another; whether it posted one. Nothing comes to the other line that waited on neither.
 pub fn relay<N: Line, M: Line>(from: &mut N, to: &mut M) -> bool

@@ -4,6 +4,6 @@
 #[cfg(test)]
 mod bytes;
 #[cfg(test)]
-mod journals;
+mod journal_examples;
 #[cfg(test)]
 mod piles;

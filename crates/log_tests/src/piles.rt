@@ -1,5 +1,5 @@
 // Gatherers, over a tray, over a journal and over one another.
-use crate::journals::{fill, holds, journal, vote};
+use crate::journal_examples::{fill, holds, journal, vote};
 use logs::gatherer::Gatherer;
 use logs::log::{Full, Log};
 use logs::tray::Tray;
