@@ -2,10 +2,11 @@
 """Brings this repository's own definitions, fields, constructors and lemmas to today's spelling.
 
 Run once, at the top, after the kit's port.py. Words are in snake case; a dash stays where it joins
-the parts of a lemma's name. Two names that would have become their neighbours' differ: the
-constructor is-asked becomes now_asked beside is_asked, and the lemmas rec-of and seats-of get _lem
-beside the functions rec_of and seats_of. Only contracts, definitions and proofs are read: functions
-of src/ keep their names, and so do strings, inputs and outputs.
+the parts of a lemma's name. Names that would have fallen together or become their neighbours'
+differ: the constructor is-asked becomes now_asked beside is_asked, and the lemmas rec-of and
+seats-of get _lem beside the functions rec_of and seats_of. blankRow of boards and blank-row of logs
+both become blank_row: no file has both in scope. Whole words are replaced, in every file of specs/,
+proofs/ and src/; none of them is a function, a string, an input or an output of src/.
 """
 import pathlib
 import re
