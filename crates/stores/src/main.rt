@@ -48,11 +48,7 @@ fn play_over(rt: &HostRuntime, bytes: &str) -> anyhow::Result<Ending> {
 fn run(rt: &HostRuntime) -> anyhow::Result<Ending> {
     let mut words = env::args(rt)?.skip(1);
     let (first, second, third) = (words.next(), words.next(), words.next());
-    match (
-        first.as_ref().map(|w| w.as_str()),
-        second.as_ref().map(|w| w.as_str()),
-        third,
-    ) {
+    match (first.as_deref(), second.as_deref(), third) {
         (Some("--help"), None, None) => {
             println!(rt; "{USAGE}")?;
             Ok(Ending::Done)
