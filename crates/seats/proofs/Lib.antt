@@ -1,3 +1,4 @@
 pub mod ExactFacts
 pub mod SetFacts
+pub mod TextFacts
 pub mod ValueFacts

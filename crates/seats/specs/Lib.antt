@@ -1,3 +1,4 @@
 pub mod Exactly
 pub mod Sets
 pub mod Sizes
+pub mod Texts

@@ -1,5 +1,7 @@
-ghost use Rattle.std.specs.Prelude.{◌≡◌, ◌<◌, ◌≤◌, MatchOption};
+ghost use Rattle.std.specs.Prelude.{◌≡◌, ◌<◌, ◌≤◌, Some, MatchOption, decimal};
 ghost use Rattle.seats.specs.Sizes.{seat_count};
+
+use std::fmt;
 
 // How many seats a coordinator has.
 pub const SEATS: u8 = 16;
@@ -11,6 +13,7 @@ pub struct Seat {
     ghost small: { value < seat_count },
 }
 
+// `new` and `number` are what `new` and `get` are of the library's NonZero: a test and a getter.
 impl Seat {
     // The seat of this number, or none where no seat has it.
     pub fn new(number: u8) -> Option<Seat>
@@ -28,5 +31,15 @@ impl Seat {
         ensures { result ≡ self.value }
     {
         self.value
+    }
+}
+
+// Its number, in decimal.
+impl fmt::Display for Seat {
+    ghost output = { λ seat. Some (decimal seat.value) };
+
+    fn fmt<W: fmt::Write>(&self, f: &mut fmt::Formatter<W>) -> fmt::Result {
+        let number = self.value;
+        write!(f, "{number}")
     }
 }

@@ -1,11 +1,13 @@
 ghost use Rattle.std.specs.Prelude.{◌≡◌, ℕ, ◌+◌, ◌^◌, ◌<◌, false, ◌&&◌, ◌||◌, Some, MatchOption, ◌==◌, nat_le, nat_lt};
 ghost use Rattle.seats.specs.Exactly.{Exactly};
 ghost use Rattle.seats.specs.Sets.{member};
+ghost use Rattle.seats.specs.Texts.{seat_text};
 ghost use Rattle.seats.specs.Sizes.{seat_count};
 ghost use Rattle.seats.specs.declared.seat.Seat.{Seat};
 
 use super::SeatSet;
 use crate::seat::{SEATS, Seat};
+use std::fmt;
 
 impl SeatSet {
     // The set without seats.
@@ -74,12 +76,7 @@ impl SeatSet {
     pub fn single(self) -> Option<Seat>
         ensures { Exactly (λ s. self.bits ≡ 2 ^ s.value) result }
     {
-        let lowest = self.lowest()?;
-        if self.bits == SeatSet::only(lowest).bits {
-            Some(lowest)
-        } else {
-            None
-        }
+        self.lowest().filter(|seat| self == SeatSet::only(*seat))
     }
 
     // The lowest seat of the set, if it has any: that of a set of one is the one.
@@ -93,11 +90,25 @@ impl SeatSet {
     pub fn range(first: u8, count: u8) -> Option<SeatSet>
         ensures { MatchOption result (seat_count < first + count) (λ s. (k : ℕ) → member s.bits k ≡ (nat_le first k && nat_lt k (first + count))) }
     {
-        if first as u16 + count as u16 > SEATS as u16 {
+        if u16::from(first) + u16::from(count) > u16::from(SEATS) {
             return None;
         }
         let bits = ((1u32 << count) - 1) << first;
         Some(SeatSet { bits: bits as u16 })
+    }
+}
+
+// Its seats from the lowest up, each behind a space.
+impl fmt::Display for SeatSet {
+    ghost output = { λ seats. Some (seat_text seats.bits) };
+
+    fn fmt<W: fmt::Write>(&self, f: &mut fmt::Formatter<W>) -> fmt::Result {
+        for number in 0..SEATS {
+            if self.has_number(number) {
+                write!(f, " {number}")?;
+            }
+        }
+        Ok(())
     }
 }
 
