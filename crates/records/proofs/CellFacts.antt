@@ -1,7 +1,9 @@
 -- Facts on the places that pairs are written to, for any number of places.
 use Rattle.std.proofs.Common.{◌≡◌, ℕ, zero, suc, ◌+◌, ◌*◌, ◌<◌, ◌≤◌, true, List, [], ◌∷◌, ◌++◌, length, get_or, take, drop, set, refl, ap, ◌∙◌, ap₂, arith}
 use Rattle.std.proofs.lemmas.List.{get_or-drop, take_more, length-take-le}
-use Rattle.records.specs.Pairs.{Pair, parted, after, padded, pairs_in}
+use Rattle.std.specs.Simd.{first_chunks}
+use Rattle.records.specs.Pairs.{pair, parted, after, padded, pairs_in}
+use Rattle.records.specs.declared.ranges.Pair.{Pair}
 use Rattle.records.proofs.PairFacts.{First, first}
 
 pub length-padded : (m : ℕ) (ps : List Pair) → length (padded m ps) ≡ 2 * m
@@ -14,16 +16,16 @@ length-pairs_in zero bs = refl
 length-pairs_in (suc c) bs = ap suc (length-pairs_in c (drop 2 bs))
 
 -- one pair more, at its place
-pub padded-push : (m : ℕ) (ps : List Pair) (q : Pair) → length ps < m → set (set (padded m ps) (2 * length ps) q.0) (2 * length ps + 1) q.1 ≡ padded m (ps ++ q ∷ [])
+pub padded-push : (m : ℕ) (ps : List Pair) (q : Pair) → length ps < m → set (set (padded m ps) (2 * length ps) q.offset) (2 * length ps + 1) q.length ≡ padded m (ps ++ q ∷ [])
 padded-push zero ps q l = let no : ⊥ = omega arith in absurd no
 padded-push (suc m) [] q l = refl
 padded-push (suc m) (p ∷ ps) q l =
     let e : 2 * suc (length ps) ≡ suc (suc (2 * length ps)) = omega arith in
     let f : suc (suc (2 * length ps)) + 1 ≡ suc (suc (2 * length ps + 1)) = omega arith in
-    rw (e, f) (ap (λ (r : List ℕ). p.0 ∷ (p.1 ∷ r)) (padded-push m ps q (omega arith)))
+    rw (e, f) (ap (λ (r : List ℕ). p.offset ∷ (p.length ∷ r)) (padded-push m ps q (omega arith)))
 
 pub padded-more : (m : ℕ) (ps : List Pair) (i : ℕ) (d : Pair) → i < m → i < length ps
-    → set (set (padded m (take i ps)) (2 * i) (get_or ps i d).0) (2 * i + 1) (get_or ps i d).1 ≡ padded m (take (i + 1) ps)
+    → set (set (padded m (take i ps)) (2 * i) (get_or ps i d).offset) (2 * i + 1) (get_or ps i d).length ≡ padded m (take (i + 1) ps)
 padded-more m ps i d l h =
     let n : length (take i ps) ≡ i = length-take-le i ps (omega arith) in
     rw (take_more ps i d h) (rw n at (padded-push m (take i ps) (get_or ps i d) (omega arith)))
@@ -59,7 +61,7 @@ padded-pairs_in (suc m) (suc c) (x ∷ (y ∷ bs)) e l z =
     ap (λ (r : List ℕ). x ∷ (y ∷ r)) (padded-pairs_in m c bs (omega arith) (omega arith) (λ k h u. z (suc (suc k)) (omega arith) (omega arith)))
 
 -- the pair at place i, among the first c
-pub pairs_in-split : (i c : ℕ) (bs : List ℕ) → i < c → (qs : List Pair) × (pairs_in c bs ≡ pairs_in i bs ++ (get_or bs (2 * i) 0, get_or bs (2 * i + 1) 0) ∷ qs)
+pub pairs_in-split : (i c : ℕ) (bs : List ℕ) → i < c → (qs : List Pair) × (pairs_in c bs ≡ pairs_in i bs ++ pair (get_or bs (2 * i) 0) (get_or bs (2 * i + 1) 0) ∷ qs)
 pairs_in-split i zero bs l = let no : ⊥ = omega arith in absurd no
 pairs_in-split zero (suc c) bs l = (pairs_in c (drop 2 bs), refl)
 pairs_in-split (suc i) (suc c) bs l =
@@ -68,9 +70,9 @@ pairs_in-split (suc i) (suc c) bs l =
     let f : 2 + (2 * i + 1) ≡ 2 * suc i + 1 = omega arith in
     let a : get_or (drop 2 bs) (2 * i) 0 ≡ get_or bs (2 * suc i) 0 = get_or-drop 2 bs (2 * i) 0 ∙ ap (λ (n : ℕ). get_or bs n 0) e in
     let b : get_or (drop 2 bs) (2 * i + 1) 0 ≡ get_or bs (2 * suc i + 1) 0 = get_or-drop 2 bs (2 * i + 1) 0 ∙ ap (λ (n : ℕ). get_or bs n 0) f in
-    (r.0, ap (λ (t : List Pair). (get_or bs 0 0, get_or bs 1 0) ∷ t) (r.1 ∙ ap₂ (λ (u v : ℕ). pairs_in i (drop 2 bs) ++ (u, v) ∷ r.0) a b))
+    (r.0, ap (λ (t : List Pair). pair (get_or bs 0 0) (get_or bs 1 0) ∷ t) (r.1 ∙ ap₂ (λ (u v : ℕ). pairs_in i (drop 2 bs) ++ pair u v ∷ r.0) a b))
 
-pub pairs_in-more : (i : ℕ) (bs : List ℕ) → pairs_in (i + 1) bs ≡ pairs_in i bs ++ (get_or bs (2 * i) 0, get_or bs (2 * i + 1) 0) ∷ []
+pub pairs_in-more : (i : ℕ) (bs : List ℕ) → pairs_in (i + 1) bs ≡ pairs_in i bs ++ pair (get_or bs (2 * i) 0) (get_or bs (2 * i + 1) 0) ∷ []
 pairs_in-more zero bs = refl
 pairs_in-more (suc i) bs =
     let s : suc i + 1 ≡ suc (i + 1) = omega arith in
@@ -78,9 +80,20 @@ pairs_in-more (suc i) bs =
     let f : 2 + (2 * i + 1) ≡ 2 * suc i + 1 = omega arith in
     let a : get_or (drop 2 bs) (2 * i) 0 ≡ get_or bs (2 * suc i) 0 = get_or-drop 2 bs (2 * i) 0 ∙ ap (λ (n : ℕ). get_or bs n 0) e in
     let b : get_or (drop 2 bs) (2 * i + 1) 0 ≡ get_or bs (2 * suc i + 1) 0 = get_or-drop 2 bs (2 * i + 1) 0 ∙ ap (λ (n : ℕ). get_or bs n 0) f in
-    rw s (ap (λ (t : List Pair). (get_or bs 0 0, get_or bs 1 0) ∷ t) (pairs_in-more i (drop 2 bs) ∙ ap₂ (λ (u v : ℕ). pairs_in i (drop 2 bs) ++ (u, v) ∷ []) a b))
+    rw s (ap (λ (t : List Pair). pair (get_or bs 0 0) (get_or bs 1 0) ∷ t) (pairs_in-more i (drop 2 bs) ∙ ap₂ (λ (u v : ℕ). pairs_in i (drop 2 bs) ++ pair u v ∷ []) a b))
 
 -- a pair in the middle of parted ranges follows those before it
 pub parted-mid : (a n : ℕ) (ps : List Pair) (q : Pair) (qs : List Pair) → parted a n (ps ++ q ∷ qs) ≡ true → First (after a ps) n q qs
 parted-mid a n [] q qs h = first a n q qs h
-parted-mid a n (p ∷ ps) q qs h = parted-mid (p.0 + p.1 + 1) n ps q qs (first a n p (ps ++ q ∷ qs) h).rest
+parted-mid a n (p ∷ ps) q qs h = parted-mid (p.offset + p.length + 1) n ps q qs (first a n p (ps ++ q ∷ qs) h).rest
+
+-- the two bytes of chunk i
+pub chunk-at : (n i : ℕ) (bs : List ℕ) → i < n → 2 * n ≤ length bs → get_or (first_chunks 2 n bs) i [] ≡ get_or bs (2 * i) 0 ∷ (get_or bs (2 * i + 1) 0 ∷ [])
+chunk-at zero i bs l h = let no : ⊥ = omega arith in absurd no
+chunk-at (suc n) i [] l h = let no : ⊥ = omega arith in absurd no
+chunk-at (suc n) i (x ∷ []) l h = let no : ⊥ = omega arith in absurd no
+chunk-at (suc n) zero (x ∷ (y ∷ bs)) l h = refl
+chunk-at (suc n) (suc i) (x ∷ (y ∷ bs)) l h =
+    let e : 2 * suc i ≡ suc (suc (2 * i)) = omega arith in
+    let f : suc (suc (2 * i)) + 1 ≡ suc (suc (2 * i + 1)) = omega arith in
+    rw (e, f) (chunk-at n i bs (omega arith) (omega arith))

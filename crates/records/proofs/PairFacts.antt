@@ -1,15 +1,15 @@
 -- Facts on pairs of offset and length, for any number of seats.
-use Rattle.std.proofs.Common.{◌≡◌, ℕ, zero, suc, ◌+◌, ◌-◌, ◌*◌, ◌<◌, ◌≤◌, Bool, true, false, cond, ◌&&◌, ◌||◌, eqb, ltb, leb, ◌⊎◌, List, [], ◌∷◌, ◌++◌, length, get_or, take, set, sym, refl, ◌∙◌, ap₂, inl, inr, arith}
-use Rattle.std.proofs.lemmas.List.{take_more_set, length-take-le}
+use Rattle.std.proofs.Common.{◌≡◌, ℕ, zero, suc, ◌+◌, ◌-◌, ◌*◌, ◌<◌, ◌≤◌, Bool, true, false, cond, ◌&&◌, ◌||◌, eqb, ltb, leb, ◌⊎◌, List, [], ◌∷◌, ◌++◌, length, get_or, sym, refl, ◌∙◌, ap₂, inl, inr, arith}
 use Rattle.std.proofs.lemmas.Bool.Decides.{nat_tests, leb_tells, eqb_tells}
-use Rattle.records.specs.Pairs.{Pair, covers, parted, after, front, runs}
+use Rattle.records.specs.Pairs.{pair, covers, parted, after, front, runs}
+use Rattle.records.specs.declared.ranges.Pair.{Pair}
 
 -- what `parted` says of the first range, and of the others
 pub record First (a n : ℕ) (p : Pair) (ps : List Pair) : Type 0 where
-  pub low : a ≤ p.0
-  pub some : 1 ≤ p.1
-  pub high : p.0 + p.1 ≤ n
-  pub rest : parted (p.0 + p.1 + 1) n ps ≡ true
+  pub low : a ≤ p.offset
+  pub some : 1 ≤ p.length
+  pub high : p.offset + p.length ≤ n
+  pub rest : parted (p.offset + p.length + 1) n ps ≡ true
 
 pub first : (a n : ℕ) (p : Pair) (ps : List Pair) → parted a n (p ∷ ps) ≡ true → First a n p ps
 first a n p ps h =
@@ -24,7 +24,7 @@ covers_below a n [] k h l = refl
 covers_below a n (p ∷ ps) k h l =
     let f = first a n p ps h in
     let low = f.low in
-    let e : covers ps k ≡ false = covers_below (p.0 + p.1 + 1) n ps k f.rest (omega arith) in
+    let e : covers ps k ≡ false = covers_below (p.offset + p.length + 1) n ps k f.rest (omega arith) in
     grind (arith, nat_tests)
 
 -- a seat from n up is in none of them
@@ -33,7 +33,7 @@ covers-above a n [] k h l = refl
 covers-above a n (p ∷ ps) k h l =
     let f = first a n p ps h in
     let high = f.high in
-    let e : covers ps k ≡ false = covers-above (p.0 + p.1 + 1) n ps k f.rest l in
+    let e : covers ps k ≡ false = covers-above (p.offset + p.length + 1) n ps k f.rest l in
     grind (arith, nat_tests)
 
 -- ranges from a up are ranges from a lower seat up
@@ -45,23 +45,23 @@ parted-down a b n (p ∷ ps) l h =
     unfirst b n p ps (record { low = omega arith; some = f.some; high = f.high; rest = f.rest })
 
 pub front-parted : (a n : ℕ) (ps : List Pair) → a < n → parted (a + 1) n ps ≡ true → parted a n (front a ps) ≡ true
-front-parted a n [] l h = unfirst a n (a, 1) [] (record { low = omega arith; some = omega arith; high = omega arith; rest = refl })
+front-parted a n [] l h = unfirst a n (pair a 1) [] (record { low = omega arith; some = omega arith; high = omega arith; rest = refl })
 front-parted a n (p ∷ ps) l h =
     let f = first (a + 1) n p ps h in
-    go (eqb_tells p.0 (a + 1)) f
+    go (eqb_tells p.offset (a + 1)) f
   where
-    go : ((eqb p.0 (a + 1) ≡ true) × (p.0 ≡ a + 1)) ⊎ ((eqb p.0 (a + 1) ≡ false) × (p.0 ≡ a + 1 → ⊥)) → First (a + 1) n p ps
+    go : ((eqb p.offset (a + 1) ≡ true) × (p.offset ≡ a + 1)) ⊎ ((eqb p.offset (a + 1) ≡ false) × (p.offset ≡ a + 1 → ⊥)) → First (a + 1) n p ps
         → parted a n (front a (p ∷ ps)) ≡ true
     go (inl e) f =
         let some = f.some in
         let high = f.high in
-        let at : p.0 ≡ a + 1 = e.1 in
-        let same : p.0 + p.1 + 1 ≡ a + (p.1 + 1) + 1 = omega arith in
-        rw e.0 (unfirst a n (a, p.1 + 1) ps (record { low = omega arith; some = omega arith; high = omega arith; rest = rw same at f.rest }))
+        let at : p.offset ≡ a + 1 = e.1 in
+        let same : p.offset + p.length + 1 ≡ a + (p.length + 1) + 1 = omega arith in
+        rw e.0 (unfirst a n (pair a (p.length + 1)) ps (record { low = omega arith; some = omega arith; high = omega arith; rest = rw same at f.rest }))
     go (inr e) f =
         let low = f.low in
-        let apart : p.0 ≡ a + 1 → ⊥ = e.1 in
-        rw e.0 (unfirst a n (a, 1) (p ∷ ps) (record {
+        let apart : p.offset ≡ a + 1 → ⊥ = e.1 in
+        rw e.0 (unfirst a n (pair a 1) (p ∷ ps) (record {
           low = omega arith;
           some = omega arith;
           high = omega arith;
@@ -109,63 +109,63 @@ covers-runs (suc n) a f k l u = go (eqb_tells k a) (λ h. covers-runs n (a + 1) 
         covers-step-other a (a + 1 + n) (runs n (a + 1) f) (f a) k (runs-parted n (a + 1) f) (omega arith) ∙ ih (omega arith)
 
 -- the first seat of parted ranges
-pub covers-first : (a n : ℕ) (p : Pair) (ps : List Pair) → First a n p ps → covers (p ∷ ps) p.0 ≡ true
+pub covers-first : (a n : ℕ) (p : Pair) (ps : List Pair) → First a n p ps → covers (p ∷ ps) p.offset ≡ true
 covers-first a n p ps f = let some = f.some in grind (arith, nat_tests)
 
 pub clash : {X : Type 0} (b : Bool) → b ≡ true → b ≡ false → X
 clash b t f = let z : ◌≡◌ {A = ℕ} 0 1 = cc in let no : ⊥ = omega arith in absurd no
 
-offset-le : (a n : ℕ) (p q : Pair) (ps qs : List Pair) → First a n p ps → First a n q qs → ((k : ℕ) → covers (p ∷ ps) k ≡ covers (q ∷ qs) k) → q.0 ≤ p.0
-offset-le a n p q ps qs F G e = go (leb_tells q.0 p.0)
+offset-le : (a n : ℕ) (p q : Pair) (ps qs : List Pair) → First a n p ps → First a n q qs → ((k : ℕ) → covers (p ∷ ps) k ≡ covers (q ∷ qs) k) → q.offset ≤ p.offset
+offset-le a n p q ps qs F G e = go (leb_tells q.offset p.offset)
   where
-    go : ((leb q.0 p.0 ≡ true) × (q.0 ≤ p.0)) ⊎ ((leb q.0 p.0 ≡ false) × (p.0 < q.0)) → q.0 ≤ p.0
+    go : ((leb q.offset p.offset ≡ true) × (q.offset ≤ p.offset)) ⊎ ((leb q.offset p.offset ≡ false) × (p.offset < q.offset)) → q.offset ≤ p.offset
     go (inl y) = y.1
     go (inr y) =
-        clash (covers (p ∷ ps) p.0) (covers-first a n p ps F)
-        (e p.0 ∙ covers_below q.0 n (q ∷ qs) p.0 (unfirst q.0 n q qs (record { low = omega arith; some = G.some; high = G.high; rest = G.rest })) y.1)
+        clash (covers (p ∷ ps) p.offset) (covers-first a n p ps F)
+        (e p.offset ∙ covers_below q.offset n (q ∷ qs) p.offset (unfirst q.offset n q qs (record { low = omega arith; some = G.some; high = G.high; rest = G.rest })) y.1)
 
-length-le : (a n : ℕ) (p q : Pair) (ps qs : List Pair) → First a n p ps → First a n q qs → p.0 ≡ q.0 → ((k : ℕ) → covers (p ∷ ps) k ≡ covers (q ∷ qs) k) → q.1 ≤ p.1
-length-le a n p q ps qs F G o e = go (leb_tells q.1 p.1)
+length-le : (a n : ℕ) (p q : Pair) (ps qs : List Pair) → First a n p ps → First a n q qs → p.offset ≡ q.offset → ((k : ℕ) → covers (p ∷ ps) k ≡ covers (q ∷ qs) k) → q.length ≤ p.length
+length-le a n p q ps qs F G o e = go (leb_tells q.length p.length)
   where
-    go : ((leb q.1 p.1 ≡ true) × (q.1 ≤ p.1)) ⊎ ((leb q.1 p.1 ≡ false) × (p.1 < q.1)) → q.1 ≤ p.1
+    go : ((leb q.length p.length ≡ true) × (q.length ≤ p.length)) ⊎ ((leb q.length p.length ≡ false) × (p.length < q.length)) → q.length ≤ p.length
     go (inl y) = y.1
     go (inr y) =
-        let l : p.1 < q.1 = y.1 in
-        let past : covers ps (p.0 + p.1) ≡ false = covers_below (p.0 + p.1 + 1) n ps (p.0 + p.1) F.rest (omega arith) in
-        let out : covers (p ∷ ps) (p.0 + p.1) ≡ false = grind (arith, nat_tests) in
-        let within : covers (q ∷ qs) (p.0 + p.1) ≡ true = grind (arith, nat_tests) in
-        clash (covers (q ∷ qs) (p.0 + p.1)) within (sym (e (p.0 + p.1)) ∙ out)
+        let l : p.length < q.length = y.1 in
+        let past : covers ps (p.offset + p.length) ≡ false = covers_below (p.offset + p.length + 1) n ps (p.offset + p.length) F.rest (omega arith) in
+        let out : covers (p ∷ ps) (p.offset + p.length) ≡ false = grind (arith, nat_tests) in
+        let within : covers (q ∷ qs) (p.offset + p.length) ≡ true = grind (arith, nat_tests) in
+        clash (covers (q ∷ qs) (p.offset + p.length)) within (sym (e (p.offset + p.length)) ∙ out)
 
-same_rest : (a n : ℕ) (p q : Pair) (ps qs : List Pair) → First a n p ps → First a n q qs → p.0 ≡ q.0 → p.1 ≡ q.1
+same_rest : (a n : ℕ) (p q : Pair) (ps qs : List Pair) → First a n p ps → First a n q qs → p.offset ≡ q.offset → p.length ≡ q.length
     → ((k : ℕ) → covers (p ∷ ps) k ≡ covers (q ∷ qs) k) → (k : ℕ) → covers ps k ≡ covers qs k
-same_rest a n p q ps qs F G o l e k = go (leb_tells (p.0 + p.1 + 1) k)
+same_rest a n p q ps qs F G o l e k = go (leb_tells (p.offset + p.length + 1) k)
   where
-    go : ((leb (p.0 + p.1 + 1) k ≡ true) × (p.0 + p.1 + 1 ≤ k)) ⊎ ((leb (p.0 + p.1 + 1) k ≡ false) × (k < p.0 + p.1 + 1)) → covers ps k ≡ covers qs k
-    go (inl y) = let u : p.0 + p.1 + 1 ≤ k = y.1 in let b = e k in grind (arith, nat_tests)
+    go : ((leb (p.offset + p.length + 1) k ≡ true) × (p.offset + p.length + 1 ≤ k)) ⊎ ((leb (p.offset + p.length + 1) k ≡ false) × (k < p.offset + p.length + 1)) → covers ps k ≡ covers qs k
+    go (inl y) = let u : p.offset + p.length + 1 ≤ k = y.1 in let b = e k in grind (arith, nat_tests)
     go (inr y) =
-        covers_below (p.0 + p.1 + 1) n ps k F.rest y.1
-        ∙ sym (covers_below (q.0 + q.1 + 1) n qs k G.rest (let u : k < p.0 + p.1 + 1 = y.1 in omega arith))
+        covers_below (p.offset + p.length + 1) n ps k F.rest y.1
+        ∙ sym (covers_below (q.offset + q.length + 1) n qs k G.rest (let u : k < p.offset + p.length + 1 = y.1 in omega arith))
 
-pub pair_same : (p q : Pair) → p.0 ≡ q.0 → p.1 ≡ q.1 → p ≡ q
-pair_same p q e f = ap₂ (λ (x y : ℕ). (x, y)) e f
+pub pair_same : (p q : Pair) → p.offset ≡ q.offset → p.length ≡ q.length → p ≡ q
+pair_same p q e f = ap₂ pair e f
 
 -- parted ranges with the same seats are the same
 pub parted-same : (a n : ℕ) (ps qs : List Pair) → parted a n ps ≡ true → parted a n qs ≡ true → ((k : ℕ) → covers ps k ≡ covers qs k) → ps ≡ qs
 parted-same a n [] [] h g e = refl
-parted-same a n [] (q ∷ qs) h g e = clash (covers (q ∷ qs) q.0) (covers-first a n q qs (first a n q qs g)) (sym (e q.0))
-parted-same a n (p ∷ ps) [] h g e = clash (covers (p ∷ ps) p.0) (covers-first a n p ps (first a n p ps h)) (e p.0)
+parted-same a n [] (q ∷ qs) h g e = clash (covers (q ∷ qs) q.offset) (covers-first a n q qs (first a n q qs g)) (sym (e q.offset))
+parted-same a n (p ∷ ps) [] h g e = clash (covers (p ∷ ps) p.offset) (covers-first a n p ps (first a n p ps h)) (e p.offset)
 parted-same a n (p ∷ ps) (q ∷ qs) h g e =
     let F = first a n p ps h in
     let G = first a n q qs g in
     let u = offset-le a n p q ps qs F G e in
     let v = offset-le a n q p qs ps G F (λ k. sym (e k)) in
-    let off : p.0 ≡ q.0 = omega arith in
+    let off : p.offset ≡ q.offset = omega arith in
     let s = length-le a n p q ps qs F G off e in
     let t = length-le a n q p qs ps G F (sym off) (λ k. sym (e k)) in
-    let len : p.1 ≡ q.1 = omega arith in
-    let next : p.0 + p.1 + 1 ≡ q.0 + q.1 + 1 = omega arith in
-    let more : parted (q.0 + q.1 + 1) n ps ≡ true = rw next at F.rest in
-    let tails : ps ≡ qs = parted-same (q.0 + q.1 + 1) n ps qs more G.rest (same_rest a n p q ps qs F G off len e) in
+    let len : p.length ≡ q.length = omega arith in
+    let next : p.offset + p.length + 1 ≡ q.offset + q.length + 1 = omega arith in
+    let more : parted (q.offset + q.length + 1) n ps ≡ true = rw next at F.rest in
+    let tails : ps ≡ qs = parted-same (q.offset + q.length + 1) n ps qs more G.rest (same_rest a n p q ps qs F G off len e) in
     let heads : p ≡ q = pair_same p q off len in
     cc
 
@@ -191,7 +191,7 @@ parted-length a n (p ∷ ps) l h =
     let low = F.low in
     let some = F.some in
     let high = F.high in
-    let ih : p.0 + p.1 + 1 + 2 * length ps ≤ n + 1 = parted-length (p.0 + p.1 + 1) n ps (omega arith) F.rest in
+    let ih : p.offset + p.length + 1 + 2 * length ps ≤ n + 1 = parted-length (p.offset + p.length + 1) n ps (omega arith) F.rest in
     omega arith
 
 -- ---- one range more
@@ -202,21 +202,21 @@ after-length a n (p ∷ ps) h =
     let F = first a n p ps h in
     let low = F.low in
     let some = F.some in
-    let ih = after-length (p.0 + p.1 + 1) n ps F.rest in
+    let ih = after-length (p.offset + p.length + 1) n ps F.rest in
     omega arith
 
-pub parted-push : (a n : ℕ) (ps : List Pair) (q : Pair) → parted a n ps ≡ true → after a ps ≤ q.0 → 1 ≤ q.1 → q.0 + q.1 ≤ n
+pub parted-push : (a n : ℕ) (ps : List Pair) (q : Pair) → parted a n ps ≡ true → after a ps ≤ q.offset → 1 ≤ q.length → q.offset + q.length ≤ n
     → parted a n (ps ++ q ∷ []) ≡ true
 parted-push a n [] q h l s u = unfirst a n q [] (record { low = l; some = s; high = u; rest = refl })
 parted-push a n (p ∷ ps) q h l s u =
     let F = first a n p ps h in
-    unfirst a n p (ps ++ q ∷ []) (record { low = F.low; some = F.some; high = F.high; rest = parted-push (p.0 + p.1 + 1) n ps q F.rest l s u })
+    unfirst a n p (ps ++ q ∷ []) (record { low = F.low; some = F.some; high = F.high; rest = parted-push (p.offset + p.length + 1) n ps q F.rest l s u })
 
-pub after_push : (a : ℕ) (ps : List Pair) (q : Pair) → after a (ps ++ q ∷ []) ≡ q.0 + q.1 + 1
+pub after_push : (a : ℕ) (ps : List Pair) (q : Pair) → after a (ps ++ q ∷ []) ≡ q.offset + q.length + 1
 after_push a [] q = refl
-after_push a (p ∷ ps) q = after_push (p.0 + p.1 + 1) ps q
+after_push a (p ∷ ps) q = after_push (p.offset + p.length + 1) ps q
 
-pub covers-push : (ps : List Pair) (q : Pair) (k : ℕ) → covers (ps ++ q ∷ []) k ≡ ((leb q.0 k && ltb k (q.0 + q.1)) || covers ps k)
+pub covers-push : (ps : List Pair) (q : Pair) (k : ℕ) → covers (ps ++ q ∷ []) k ≡ ((leb q.offset k && ltb k (q.offset + q.length)) || covers ps k)
 covers-push [] q k = refl
 covers-push (p ∷ ps) q k = let ih = covers-push ps q k in grind (arith, nat_tests)
 
@@ -225,27 +225,13 @@ pub covers-after : (a n : ℕ) (ps : List Pair) (k : ℕ) → parted a n ps ≡ 
 covers-after a n [] k h l = refl
 covers-after a n (p ∷ ps) k h l =
     let F = first a n p ps h in
-    let u = after-length (p.0 + p.1 + 1) n ps F.rest in
-    let ih : covers ps k ≡ false = covers-after (p.0 + p.1 + 1) n ps k F.rest l in
+    let u = after-length (p.offset + p.length + 1) n ps F.rest in
+    let ih : covers ps k ≡ false = covers-after (p.offset + p.length + 1) n ps k F.rest l in
     grind (arith, nat_tests)
 
 -- one range more, in m places for the pairs of 2 * m seats: where the next one may begin, there is a place for it
-module _ (m : ℕ) (pairs : List Pair) (count : ℕ) (few : count ≤ m) (long : length pairs ≡ m) (apart : parted 0 (2 * m) (take count pairs) ≡ true) (o l : ℕ)
-    (begin : after 0 (take count pairs) ≤ o) (some : 1 ≤ l) (high : o + l ≤ 2 * m) where
-  pub push-room : count < m
-  push-room =
-      let u = after-length 0 (2 * m) (take count pairs) apart in
-      let v : length (take count pairs) ≡ count = length-take-le count pairs (omega arith) in
-      omega arith
-
-  pub push-held : take (count + 1) (set pairs count (o, l)) ≡ take count pairs ++ (o, l) ∷ []
-  push-held = let r = push-room in take_more_set pairs count (o, l) (omega arith)
-
-  pub push-parted : parted 0 (2 * m) (take (count + 1) (set pairs count (o, l))) ≡ true
-  push-parted = rw push-held (parted-push 0 (2 * m) (take count pairs) (o, l) apart begin some high)
-
-  pub push-after : o + l + 1 ≡ after 0 (take (count + 1) (set pairs count (o, l)))
-  push-after = rw push-held (sym (after_push 0 (take count pairs) (o, l)))
+pub push-room : (m : ℕ) (ps : List Pair) (q : Pair) → parted 0 (2 * m) ps ≡ true → after 0 ps ≤ q.offset → 1 ≤ q.length → q.offset + q.length ≤ 2 * m → length ps < m
+push-room m ps q apart begin some high = let u = after-length 0 (2 * m) ps apart in omega arith
 
 -- ---- a loop over the seats
 
@@ -303,13 +289,13 @@ cut_out f n k ps P c u y = record {
 
 -- .. and a run is width, which is then a range
 pub cut-shut : (f : ℕ → Bool) (n k width : ℕ) (ps : List Pair) → parted 0 n ps ≡ true → Cut f n k width ps → 0 < width → k ≤ n → (k < n → f k ≡ false)
-    → Cut f n (k + 1) 0 (ps ++ (k - width, width) ∷ [])
+    → Cut f n (k + 1) 0 (ps ++ pair (k - width) width ∷ [])
 cut-shut f n k width ps P c o u y = record {
   fits = omega arith;
   low = omega arith;
   shut = λ h. refl;
-  before = let b = after_push 0 ps (k - width, width) in let g = c.fits in omega arith;
-  done = λ j h m. rw (covers-push ps (k - width, width) j) (at j (leb_tells k j) (leb_tells (k - width) j) h m);
+  before = let b = after_push 0 ps (pair (k - width) width) in let g = c.fits in omega arith;
+  done = λ j h m. rw (covers-push ps (pair (k - width) width) j) (at j (leb_tells k j) (leb_tells (k - width) j) h m);
   run = λ j h m. let no : ⊥ = omega arith in absurd no;
 }
   where
@@ -334,7 +320,7 @@ cut-shut f n k width ps P c o u y = record {
         grind (arith, nat_tests)
 
 -- a range of parted ones, by its place
-pub parted-at : (a n : ℕ) (ps : List Pair) (i : ℕ) (d : Pair) → parted a n ps ≡ true → i < length ps → (get_or ps i d).0 + (get_or ps i d).1 ≤ n
+pub parted-at : (a n : ℕ) (ps : List Pair) (i : ℕ) (d : Pair) → parted a n ps ≡ true → i < length ps → (get_or ps i d).offset + (get_or ps i d).length ≤ n
 parted-at a n [] i d h l = let no : ⊥ = omega arith in absurd no
 parted-at a n (p ∷ ps) zero d h l = (first a n p ps h).high
-parted-at a n (p ∷ ps) (suc i) d h l = parted-at (p.0 + p.1 + 1) n ps i d (first a n p ps h).rest (omega arith)
+parted-at a n (p ∷ ps) (suc i) d h l = parted-at (p.offset + p.length + 1) n ps i d (first a n p ps h).rest (omega arith)

@@ -2,7 +2,8 @@
 use Rattle.std.proofs.Common.{◌≡◌, ℕ, ◌+◌, ◌*◌, ◌/◌, ◌%◌, ◌^◌, ◌<◌, ◌≤◌, true, List, [], ◌∷◌, length, get_or, take, drop, sym, refl, ap, ◌∙◌, subst, ap₂, arith}
 use Rattle.std.proofs.lemmas.List.{take_all, length-drop}
 use Rattle.records.specs.Bytes.{runs_of, rec_bytes, bytes_of, rec_of}
-use Rattle.records.specs.Pairs.{Pair, covers, parted, runs, padded, pairs_in}
+use Rattle.records.specs.Pairs.{covers, parted, runs, padded, pairs_in}
+use Rattle.records.specs.declared.ranges.Pair.{Pair}
 use Rattle.records.specs.Ranged.{Written}
 use Rattle.records.specs.Recs.{kind_of, seats_of, model_of}
 use Rattle.seats.specs.Sets.{member, bits_of}

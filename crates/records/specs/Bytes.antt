@@ -1,6 +1,7 @@
 -- The bytes of a record, and what bytes say.
 use Rattle.std.specs.Prelude.{◌≡◌, ℕ, ◌+◌, ◌*◌, ◌/◌, ◌%◌, ◌^◌, List, [], ◌∷◌, ◌++◌, length, drop, replicate, Some, None, Option, ◌≢◌, slice_index}
-use Rattle.records.specs.Pairs.{Pair, covers, runs, padded, pairs_in}
+use Rattle.records.specs.Pairs.{covers, runs, padded, pairs_in}
+use Rattle.records.specs.declared.ranges.Pair.{Pair}
 use Rattle.records.specs.Recs.{Rec, model_of}
 use Rattle.records.specs.Rows.{row_means}
 use Rattle.seats.specs.Sets.{member, bits_of}

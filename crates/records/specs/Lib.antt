@@ -4,3 +4,4 @@ pub mod Ranged
 pub mod Recs
 pub mod Rows
 pub mod Sizes
+pub mod Texts

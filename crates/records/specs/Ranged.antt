@@ -1,12 +1,13 @@
 -- What `Ranges` holds, and what reading ranges from bytes answers.
-use Rattle.std.specs.Prelude.{◌≡◌, ℕ, ◌≤◌, true, List, take, Some, None, Option}
-use Rattle.records.specs.Pairs.{Pair, parted, padded, pairs_in}
+use Rattle.std.specs.Prelude.{◌≡◌, ℕ, ◌≤◌, true, List, Some, None, Option}
+use Rattle.records.specs.Pairs.{parted, padded, pairs_in}
+use Rattle.records.specs.declared.ranges.Pair.{Pair}
 use Rattle.seats.specs.Sizes.{seat_count}
 use Rattle.records.specs.Sizes.{pair_count}
 use Rattle.records.specs.declared.ranges.Ranges.{Ranges}
 
 abbrev pub held : Ranges → List Pair
-held r = take r.count r.pairs
+held r = r.pairs.items
 
 -- the bytes write c ranges: parted ones, and zero in the places that are not used
 pub record Written (c : ℕ) (bs : List ℕ) : Type 0 where

@@ -11,11 +11,18 @@ use seats::set::SeatSet;
 // How many bytes a record has.
 pub const RECORD_BYTES: usize = 22;
 
+// Where its parts lie, behind the transaction: the kind, the number of pairs, and the places of the pairs.
+const KIND_AT: usize = 4;
+
+const COUNT_AT: usize = 5;
+
+const CELLS_AT: usize = 6;
+
 // The bytes of a record.
 pub fn encode(record: &Record) -> [u8; RECORD_BYTES]
     ensures { result ≡ bytes_of «record».now }
 {
-    row_bytes(Row::of(record))
+    row_bytes(Row::from(record))
 }
 
 // The record whose bytes these are, or none where they are no record's.
@@ -37,16 +44,12 @@ pub fn example() -> [u8; RECORD_BYTES]
 fn row_bytes(row: Row) -> [u8; RECORD_BYTES]
     ensures { result ≡ rec_bytes (row_means row) }
 {
-    let ranges = Ranges::of(SeatSet::from_bits(row.seats));
-    let [a, b, c, d] = row.transaction.to_be_bytes();
+    let ranges = Ranges::from(SeatSet::from_bits(row.seats));
     let mut bytes = [0u8; RECORD_BYTES];
-    bytes[0] = a;
-    bytes[1] = b;
-    bytes[2] = c;
-    bytes[3] = d;
-    bytes[4] = row.kind;
-    bytes[5] = ranges.count() as u8;
-    bytes[6..RECORD_BYTES].copy_from_slice(&ranges.cells());
+    bytes[..KIND_AT].copy_from_slice(&row.transaction.to_be_bytes());
+    bytes[KIND_AT] = row.kind;
+    bytes[COUNT_AT] = ranges.count() as u8;
+    bytes[CELLS_AT..].copy_from_slice(&ranges.cells());
     bytes
 }
 
@@ -58,10 +61,10 @@ fn read_row(bytes: &[u8]) -> Option<Row>
         return None;
     }
     let transaction = u32::from_be_bytes([bytes[0], bytes[1], bytes[2], bytes[3]]);
-    let ranges = Ranges::read(bytes[5], &bytes[6..RECORD_BYTES])?;
+    let ranges = Ranges::read(bytes[COUNT_AT], &bytes[CELLS_AT..RECORD_BYTES])?;
     Some(Row {
         transaction,
-        kind: bytes[4],
+        kind: bytes[KIND_AT],
         seats: ranges.seats().bits(),
     })
 }

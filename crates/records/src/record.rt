@@ -35,3 +35,4 @@ impl Record {
 }
 
 mod kinds;
+mod printing;

@@ -1,13 +1,16 @@
-ghost use Rattle.std.specs.Prelude.{◌≡◌, ℕ, ◌+◌, ◌*◌, ◌<◌, ◌≤◌, ◌&&◌, length, Decides, nat_le, slice_index};
+ghost use Rattle.std.specs.Prelude.{◌≡◌, ℕ, ◌+◌, ◌*◌, ◌<◌, ◌≤◌, ◌&&◌, ◌↔◌, length, nat_le, slice_index, EachIndex, IsTrue};
 ghost use Rattle.records.specs.Pairs.{after, padded};
 ghost use Rattle.records.specs.Ranged.{held, ReadsRanges};
 ghost use Rattle.seats.specs.Sizes.{seat_count};
 ghost use Rattle.records.specs.Sizes.{pair_count};
 
-use super::{PAIRS, Ranges};
+use super::{PAIRS, Pair, Ranges};
 use seats::seat::SEATS;
 
-// How many bytes the pairs of a record take: an offset and a length each.
+// How many bytes a pair takes: its offset and its length.
+const PAIR_CELLS: usize = 2;
+
+// How many bytes the pairs of a record take.
 pub(crate) const CELLS: usize = 16;
 
 impl Ranges {
@@ -16,21 +19,20 @@ impl Ranges {
         ensures { result ≡ padded pair_count (held self.now) }
     {
         let mut cells = [0u8; CELLS];
-        for i in 0..self.count {
-            let (offset, count) = self.pairs[i];
-            cells[2 * i] = offset;
-            cells[2 * i + 1] = count;
+        for (i, pair) in self.pairs.as_slice().iter().enumerate() {
+            cells[PAIR_CELLS * i] = pair.offset;
+            cells[PAIR_CELLS * i + 1] = pair.length;
         }
         cells
     }
 
     // Whether a range may follow the others.
-    fn fits(&self, offset: u8, count: u8) -> bool
-        ensures { result ≡ (nat_le (after 0 (held self.now)) offset && (nat_le 1 count && nat_le (offset + count) seat_count)) }
+    fn fits(&self, pair: Pair) -> bool
+        ensures { result ≡ (nat_le (after 0 (held self.now)) pair.offset && (nat_le 1 pair.length && nat_le (pair.offset + pair.length) seat_count)) }
     {
-        offset >= self.next
-            && count >= 1
-            && u16::from(offset) + u16::from(count) <= u16::from(SEATS)
+        pair.offset >= self.next
+            && pair.length >= 1
+            && u16::from(pair.offset) + u16::from(pair.length) <= u16::from(SEATS)
     }
 
     // The ranges that a count of pairs and their places write, or none where these break a rule.
@@ -38,33 +40,32 @@ impl Ranges {
         requires { length cells.now ≡ 2 * pair_count }
         ensures { ReadsRanges count cells.now result }
     {
-        let used = count as usize;
-        if used > PAIRS || !unused_are_zero(used, cells) {
+        let used = usize::from(count);
+        if used > PAIRS {
+            return None;
+        }
+        let (written, unused) = cells.split_at(PAIR_CELLS * used);
+        if !all_zero(unused) {
             return None;
         }
         let mut ranges = Ranges::none();
-        for i in 0..used {
-            let offset = cells[2 * i];
-            let length = cells[2 * i + 1];
-            if !ranges.fits(offset, length) {
+        for [offset, length] in written.as_chunks::<PAIR_CELLS>().0 {
+            let pair = Pair {
+                offset: *offset,
+                length: *length,
+            };
+            if !ranges.fits(pair) {
                 return None;
             }
-            ranges.push(offset, length);
+            ranges.push(pair);
         }
         Some(ranges)
     }
 }
 
-// Whether the places behind the first `used` pairs are zero.
-fn unused_are_zero(used: usize, cells: &[u8]) -> bool
-    requires long { length cells.now ≡ 2 * pair_count }
-    requires few { used ≤ pair_count }
-    ensures { Decides result ((k : ℕ) → 2 * used ≤ k → k < 2 * pair_count → slice_index cells.now k ≡ 0) }
+// Whether all of them are zero.
+fn all_zero(cells: &[u8]) -> bool
+    ensures { IsTrue result ↔ EachIndex cells.now (λ k. slice_index cells.now k ≡ 0) }
 {
-    for k in 2 * used..CELLS {
-        if cells[k] != 0 {
-            return false;
-        }
-    }
-    true
+    cells.iter().all(|cell| *cell == 0)
 }

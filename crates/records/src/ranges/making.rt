@@ -5,7 +5,8 @@ ghost use Rattle.seats.specs.Sets.{member, bits_of};
 ghost use Rattle.seats.specs.Sizes.{seat_count};
 ghost use Rattle.records.specs.Sizes.{pair_count};
 
-use super::{PAIRS, Ranges};
+use super::{Pair, Ranges};
+use arrayvec::ArrayVec;
 use seats::seat::SEATS;
 use seats::set::SeatSet;
 
@@ -15,8 +16,7 @@ impl Ranges {
         ensures { held result ≡ [] }
     {
         Ranges {
-            pairs: [(0, 0); PAIRS],
-            count: 0,
+            pairs: ArrayVec::new(),
             next: 0,
         }
     }
@@ -26,43 +26,18 @@ impl Ranges {
         ensures value { result ≡ length (held self.now) }
         ensures few { result ≤ pair_count }
     {
-        self.count
+        self.pairs.len()
     }
 
     // One range more, behind the others.
-    pub(crate) fn push(&mut self, offset: u8, count: u8)
-        requires begins { after 0 (held self.old) ≤ offset }
-        requires some { 1 ≤ count }
-        requires within { offset + count ≤ seat_count }
-        ensures { held self.new ≡ held self.old ++ (offset, count) ∷ [] }
+    pub(crate) fn push(&mut self, pair: Pair)
+        requires begins { after 0 (held self.old) ≤ pair.offset }
+        requires some { 1 ≤ pair.length }
+        requires within { pair.offset + pair.length ≤ seat_count }
+        ensures { held self.new ≡ held self.old ++ pair ∷ [] }
     {
-        let mut pairs = self.pairs;
-        pairs[self.count] = (offset, count);
-        *self = Ranges {
-            pairs,
-            count: self.count + 1,
-            next: offset + count + 1,
-        };
-    }
-
-    // The runs of a set of seats.
-    pub(crate) fn of(seats: SeatSet) -> Ranges
-        ensures { held result ≡ runs seat_count 0 (member seats.bits) }
-    {
-        let mut ranges = Ranges::none();
-        // how many seats right below k are in the set
-        let mut width = 0u8;
-        for k in 0..SEATS + 1 {
-            if seats.has_number(k) {
-                width += 1;
-            } else {
-                if width > 0 {
-                    ranges.push(k - width, width);
-                }
-                width = 0;
-            }
-        }
-        ranges
+        self.pairs.push(pair);
+        self.next = pair.offset + pair.length + 1;
     }
 
     // The set of the seats in the ranges.
@@ -70,13 +45,35 @@ impl Ranges {
         ensures { result.bits ≡ bits_of seat_count (covers (held self.now)) }
     {
         let mut seats = SeatSet::empty();
-        for i in 0..self.count {
-            let (offset, count) = self.pairs[i];
-            let Some(range) = SeatSet::range(offset, count) else {
+        for pair in self.pairs.as_slice() {
+            let Some(range) = SeatSet::range(pair.offset, pair.length) else {
                 unreachable()
             };
             seats = seats.union(range);
         }
         seats
+    }
+}
+
+// The runs of a set of seats.
+impl From<SeatSet> for Ranges {
+    ghost from_gives = { λ seats ranges. held ranges ≡ runs seat_count 0 (member seats.bits) };
+
+    fn from(seats: SeatSet) -> Ranges {
+        let mut ranges = Ranges::none();
+        // how many seats right below k are in the set
+        let mut length = 0u8;
+        for k in 0..SEATS + 1 {
+            if seats.has_number(k) {
+                length += 1;
+            } else {
+                if length > 0 {
+                    let offset = k - length;
+                    ranges.push(Pair { offset, length });
+                }
+                length = 0;
+            }
+        }
+        ranges
     }
 }

@@ -1,11 +1,12 @@
 ghost use Rattle.std.specs.Prelude.{◌≡◌};
 ghost use Rattle.seats.specs.Exactly.{Exactly};
 ghost use Rattle.records.specs.Recs.{kind_of, seats_of};
+ghost use Rattle.records.specs.Texts.{kind_text, noun_text};
 
 use super::Entry;
 use seats::set::SeatSet;
 
-// The numbers of the kinds of entry, in bytes and in rows.
+// The numbers of the kinds of entry, in bytes and in rows: the format's, so numbers here and entries everywhere else.
 const DECISION: u8 = 1;
 
 const VOTE: u8 = 2;
@@ -24,6 +25,29 @@ impl Entry {
             Entry::Vote(_) => VOTE,
             Entry::Kept(_) => KEPT,
             Entry::Undone(_) => UNDONE,
+        }
+    }
+
+    // The name of its kind.
+    pub fn name(self) -> &'static str
+        ensures { result.now ≡ kind_text self }
+    {
+        match self {
+            Entry::Decision(_) => "Decision",
+            Entry::Vote(_) => "Vote",
+            Entry::Kept(_) => "Kept",
+            Entry::Undone(_) => "Undone",
+        }
+    }
+
+    // What its seats are called.
+    pub(crate) fn noun(self) -> &'static str
+        ensures { result.now ≡ noun_text self }
+    {
+        match self {
+            Entry::Decision(seats) if seats.bits() == 0 => "no seats",
+            Entry::Decision(_) => "seats",
+            _ => "seat",
         }
     }
 

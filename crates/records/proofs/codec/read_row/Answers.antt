@@ -1,6 +1,7 @@
 use Rattle.std.proofs.Common.{◌≡◌, ◌<◌, List, length, get_or, sym, ap, ◌∙◌, subst, arith}
 use Rattle.records.specs.Bytes.{rec_of, runs_of, ReadsRow}
-use Rattle.records.specs.Pairs.{Pair, covers}
+use Rattle.records.specs.Pairs.{covers}
+use Rattle.records.specs.declared.ranges.Pair.{Pair}
 use Rattle.records.specs.Ranged.{held}
 use Rattle.records.specs.Recs.{Rec, model_of}
 use Rattle.seats.specs.Sets.{bits_of}

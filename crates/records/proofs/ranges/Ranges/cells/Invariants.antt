@@ -3,4 +3,4 @@ use Rattle.records.specs.Pairs.{padded}
 use Rattle.records.proofs.ranges.Ranges.cells.Given as goal
 
 abbrev pub invariant-loop-i : goal.invariant-loop-i
-invariant-loop-i l = l.cells ≡ padded 8 (take l.i l.self.pairs)
+invariant-loop-i l = l.cells ≡ padded 8 (take l.i l.self.pairs.items)

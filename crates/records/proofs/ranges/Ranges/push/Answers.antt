@@ -1,23 +1,22 @@
-use Rattle.std.proofs.Common.{◌∙◌, arith, length-set}
-use Rattle.records.proofs.PairFacts.{push-room, push-held, push-parted, push-after}
+use Rattle.std.proofs.Common.{sym, arith, lit<}
+use Rattle.records.proofs.PairFacts.{push-room, parted-push, after_push}
 use Rattle.records.proofs.ranges.Ranges.push.Goals as goal
 
-pub bounds-pairs-self : goal.bounds-pairs-self
-bounds-pairs-self c =
+pub push-requires : goal.push-requires
+push-requires c =
     let s = c.args.self.now in
-    push-room 8 s.pairs s.count s.few s.long s.apart c.args.offset c.args.count c.requires.begins c.requires.some c.requires.within
+    let r = push-room 8 s.pairs.items c.args.pair s.apart c.requires.begins c.requires.some c.requires.within in
+    (lit< tt, r)
 
 pub invariant_of-self : goal.invariant_of-self
 invariant_of-self c =
     let s = c.args.self.now in
-    let o = c.args.offset in
-    let l = c.args.count in
-    let r = push-room 8 s.pairs s.count s.few s.long s.apart o l c.requires.begins c.requires.some c.requires.within in
-    let p = push-parted 8 s.pairs s.count s.few s.long s.apart o l c.requires.begins c.requires.some c.requires.within in
-    let a = push-after 8 s.pairs s.count s.few s.long s.apart o l c.requires.begins c.requires.some c.requires.within in
-    record { long = length-set s.pairs s.count (o, l) ∙ s.long; few = omega arith; apart = p; begins = a }
-
-pub returns : goal.returns
-returns c =
-    let s = c.args.self.now in
-    push-held 8 s.pairs s.count s.few s.long s.apart c.args.offset c.args.count c.requires.begins c.requires.some c.requires.within
+    let q = c.args.pair in
+    let r = push-room 8 s.pairs.items q s.apart c.requires.begins c.requires.some c.requires.within in
+    let e = c.push.ensures.items in
+    let n = c.push.ensures.len in
+    record {
+      few = omega arith;
+      apart = rw e (parted-push 0 16 s.pairs.items q s.apart c.requires.begins c.requires.some c.requires.within);
+      begins = rw e (sym (after_push 0 s.pairs.items q));
+    }

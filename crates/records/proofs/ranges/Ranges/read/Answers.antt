@@ -1,11 +1,12 @@
-use Rattle.std.proofs.Common.{◌≡◌, ℕ, ◌+◌, ◌*◌, ◌<◌, ◌≤◌, true, ◌&&◌, leb, List, get_or, sym, ap, ◌∙◌, arith}
+use Rattle.std.proofs.Common.{◌≡◌, ℕ, ◌+◌, ◌*◌, ◌/◌, ◌<◌, ◌≤◌, true, ◌&&◌, leb, List, [], ◌∷◌, ◌++◌, ◌-◌, length, get_or, sym, ap, ◌∙◌, ap₂, arith}
 use Rattle.std.proofs.lemmas.Bool.Decides.{nat_tests}
-use Rattle.records.specs.Pairs.{after, pairs_in}
+use Rattle.std.specs.Simd.{first_chunks}
+use Rattle.records.specs.Pairs.{pair, after, pairs_in}
 use Rattle.records.specs.Ranged.{held, Written}
+use Rattle.records.specs.declared.ranges.Pair.{Pair}
 use Rattle.records.proofs.PairFacts.{clash}
-use Rattle.records.proofs.CellFacts.{padded-zero, length-pairs_in, padded-pairs_in, pairs_in-split, pairs_in-more, parted-mid}
+use Rattle.records.proofs.CellFacts.{padded-zero, length-pairs_in, padded-pairs_in, pairs_in-split, pairs_in-more, parted-mid, chunk-at}
 use Rattle.records.proofs.ranges.Ranges.read.Goals as goal
-use Rattle.records.proofs.ranges.Ranges.read.Goals.{then-used-gt-PAIRS-via-then-used-gt-PAIRS, then-used-gt-PAIRS-via-else-used-gt-PAIRS+then-not-unused_are_zero}
 
 -- the places behind the pairs that are written are zero
 zeros : (c : ℕ) (bs : List ℕ) → Written c bs → (k : ℕ) → 2 * c ≤ k → get_or bs k 0 ≡ 0
@@ -16,48 +17,72 @@ follows : (c i : ℕ) (bs : List ℕ) → Written c bs → i < c
     → (leb (after 0 (pairs_in i bs)) (get_or bs (2 * i) 0) && (leb 1 (get_or bs (2 * i + 1) 0) && leb (get_or bs (2 * i) 0 + get_or bs (2 * i + 1) 0) 16)) ≡ true
 follows c i bs w l =
     let s = pairs_in-split i c bs l in
-    let F = parted-mid 0 16 (pairs_in i bs) (get_or bs (2 * i) 0, get_or bs (2 * i + 1) 0) s.0 (rw s.1 at w.apart) in
+    let F = parted-mid 0 16 (pairs_in i bs) (pair (get_or bs (2 * i) 0) (get_or bs (2 * i + 1) 0)) s.0 (rw s.1 at w.apart) in
     let a = F.low in
     let b = F.some in
     let u = F.high in
     grind (arith, nat_tests)
 
-pub returns-then-used-gt-PAIRS : goal.returns-then-used-gt-PAIRS
-returns-then-used-gt-PAIRS c w =
-    elim c.then-used-gt-PAIRS.branch [
-      | then-used-gt-PAIRS-via-then-used-gt-PAIRS v ↦ let f = w.few in omega (arith, v.if-used-gt-PAIRS.true)
-      | then-used-gt-PAIRS-via-else-used-gt-PAIRS+then-not-unused_are_zero v ↦
-          clash v.unused_are_zero.result (v.unused_are_zero.ensures.1 (λ k l u. zeros c.args.count c.args.cells.now w k l)) v.if-not-unused_are_zero.true
-    ]
+-- chunk i of the first 2 * c bytes holds the two bytes of pair i
+chunk : (c i : ℕ) (bs xs : List ℕ) (cs : List (List ℕ)) → cs ≡ first_chunks 2 (length xs / 2) xs → length xs ≡ 2 * c → ((k : ℕ) → (d : ℕ) → k < 2 * c → get_or xs k d ≡ get_or bs k d) → i < c
+    → get_or cs i [] ≡ get_or bs (2 * i) 0 ∷ (get_or bs (2 * i + 1) 0 ∷ [])
+chunk c i bs xs cs e n same l =
+    let x = same (2 * i) 0 (omega arith) in
+    let y = same (2 * i + 1) 0 (omega arith) in
+    rw e (chunk-at (length xs / 2) i xs (omega arith) (omega arith)) ∙ ap₂ (λ (u v : ℕ). u ∷ (v ∷ [])) x y
+
+pub returns-then-not-all_zero : goal.returns-then-not-all_zero
+returns-then-not-all_zero c w =
+    let u = c.from-used.ensures in
+    clash c.all_zero.result
+    (c.all_zero.ensures.1 (λ k l. c.split_at.ensures.by_index.2 k 0 ∙ zeros c.args.count c.args.cells.now w (2 * c.from-used.result + k) (omega arith)))
+    c.if-not-all_zero.true
 
 pub returns-then-not-fits : goal.returns-then-not-fits
 returns-then-not-fits c w =
     let bs = c.args.cells.now in
-    let i = c.loop-i.i in
-    let e : held c.loop-i.ranges ≡ pairs_in i bs = c.loop-i.invariant in
-    let t : (leb (after 0 (held c.loop-i.ranges)) (get_or bs (2 * i) 0) && (leb 1 (get_or bs (2 * i + 1) 0) && leb (get_or bs (2 * i) 0 + get_or bs (2 * i + 1) 0) 16)) ≡ true =
-    rw e (follows c.args.count i bs w c.loop-i-test.true) in
-    clash (leb (after 0 (held c.loop-i.ranges)) (get_or bs (2 * i) 0) && (leb 1 (get_or bs (2 * i + 1) 0) && leb (get_or bs (2 * i) 0 + get_or bs (2 * i + 1) 0) 16)) t (sym c.if-not-fits.ensures)
+    let i = c.loop-offset.offset-index in
+    let u = c.from-used.ensures in
+    let n = c.split_at.ensures.front_len in
+    let g = c.as_chunks.ensures.front_len in
+    let t = c.loop-offset-test.true in
+    let e = chunk c.from-used.result i bs c.split_at.result.0.now c.as_chunks.result.0.now c.as_chunks.ensures.front n c.split_at.ensures.by_index.1 (omega arith) in
+    let inv : held c.loop-offset.ranges ≡ pairs_in i bs = c.loop-offset.invariant in
+    let f = rw (inv, e) at c.fits.ensures in
+    clash c.fits.result (f ∙ follows c.args.count i bs w (omega arith)) c.if-not-fits.true
 
-pub loop-i-preserved : goal.loop-i-preserved
-loop-i-preserved c =
-    let e : held c.loop-i.ranges ≡ pairs_in c.loop-i.i c.args.cells.now = c.loop-i.invariant in
-    let f = pairs_in-more c.loop-i.i c.args.cells.now in
-    let g = c.push.ensures in
-    let r : held c.push.new.self ≡ pairs_in (c.loop-i.i + 1) c.args.cells.now = cc in
-    r
+pub loop-offset-preserved : goal.loop-offset-preserved
+loop-offset-preserved c =
+    let bs = c.args.cells.now in
+    let i = c.loop-offset.offset-index in
+    let n = c.split_at.ensures.front_len in
+    let g = c.as_chunks.ensures.front_len in
+    let t = c.loop-offset-test.true in
+    let e = chunk c.from-used.result i bs c.split_at.result.0.now c.as_chunks.result.0.now c.as_chunks.ensures.front n c.split_at.ensures.by_index.1 (omega arith) in
+    let inv : held c.loop-offset.ranges ≡ pairs_in i bs = c.loop-offset.invariant in
+    c.push.ensures
+    ∙ ap₂ (λ (ps : List Pair) (x : List ℕ). ps ++ pair (get_or x 0 0) (get_or x 1 0) ∷ []) inv e
+    ∙ sym (pairs_in-more i bs)
 
 pub returns : goal.returns
 returns c =
     let bs = c.args.cells.now in
-    let n : c.loop-i.i ≡ c.args.count = omega arith in
-    let e : held c.loop-i.ranges ≡ pairs_in c.loop-i.i bs = c.loop-i.invariant in
-    let f : held c.loop-i.ranges ≡ pairs_in c.args.count bs = e ∙ ap (λ (m : ℕ). pairs_in m bs) n in
-    let z = c.unused_are_zero.ensures.0 c.if-not-unused_are_zero.false in (
-      record {
-        few = c.if-used-gt-PAIRS.false;
-        apart = rw f at c.loop-i.ranges.apart;
-        unused = padded-pairs_in 8 c.args.count bs c.requires c.if-used-gt-PAIRS.false z;
-      },
+    let r = c.loop-offset.ranges in
+    let i = c.loop-offset.offset-index in
+    let u = c.from-used.ensures in
+    let n = c.split_at.ensures.front_len in
+    let g = c.as_chunks.ensures.front_len in
+    let end = c.loop-offset.auto.offset-index-end in
+    let t = c.loop-offset-test.false in
+    let m : i ≡ c.args.count = omega arith in
+    let inv : held r ≡ pairs_in i bs = c.loop-offset.invariant in
+    let f : held r ≡ pairs_in c.args.count bs = inv ∙ ap (λ (m : ℕ). pairs_in m bs) m in
+    let zero = c.all_zero.ensures.0 c.if-not-all_zero.false in
+    let back = c.split_at.ensures.back_len in
+    let z : (k : ℕ) → 2 * c.args.count ≤ k → k < 16 → get_or bs k 0 ≡ 0 = λ k l h.
+    let j : 2 * c.from-used.result + (k - 2 * c.from-used.result) ≡ k = omega arith in
+    ap (λ (x : ℕ). get_or bs x 0) (sym j) ∙ sym (c.split_at.ensures.by_index.2 (k - 2 * c.from-used.result) 0)
+    ∙ zero (k - 2 * c.from-used.result) (omega (arith, c.requires)) in (
+      record { few = omega arith; apart = rw f at r.apart; unused = padded-pairs_in 8 c.args.count bs c.requires (omega arith) z },
       f,
     )

@@ -3,5 +3,5 @@ use Rattle.records.specs.Pairs.{covers}
 use Rattle.seats.specs.Sets.{member}
 use Rattle.records.proofs.ranges.Ranges.seats.Given as goal
 
-abbrev pub invariant-loop-i : goal.invariant-loop-i
-invariant-loop-i l = (k : ℕ) → member l.seats.bits k ≡ covers (take l.i l.self.pairs) k
+abbrev pub invariant-loop-pair : goal.invariant-loop-pair
+invariant-loop-pair l = (k : ℕ) → member l.seats.bits k ≡ covers (take l.pair-index l.self.pairs.items) k
