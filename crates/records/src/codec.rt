@@ -29,7 +29,7 @@ pub fn encode(record: &Record) -> [u8; RECORD_BYTES]
 pub fn decode(bytes: &[u8]) -> Option<Record>
     ensures { Exactly (λ x. bytes.now ≡ bytes_of x) result }
 {
-    read_row(bytes)?.record()
+    Record::try_from(read_row(bytes)?).ok()
 }
 
 // A worked example: transaction 7 is decided with seats 0, 1, 2 and 5.

@@ -1,10 +1,13 @@
-ghost use Rattle.std.specs.Prelude.{◌≡◌};
+ghost use Rattle.std.specs.Prelude.{◌≡◌, Some, codes};
+ghost use Rattle.std.specs.Result.{result_ok};
 ghost use Rattle.seats.specs.Exactly.{Exactly};
 ghost use Rattle.records.specs.Recs.{model_of};
 ghost use Rattle.records.specs.Rows.{row_means};
 
 use crate::record::{Entry, Record};
 use seats::set::SeatSet;
+use std::error::Error;
+use std::fmt;
 
 // A record as a plain row of numbers, which any numbers may fill: it is read back with a check.
 #[derive(Clone, Copy, PartialEq, Eq, Debug, Default)]
@@ -28,18 +31,30 @@ impl<'a> From<&'a Record> for Row {
     }
 }
 
-impl Row {
-    // Not TryFrom: each caller wants absence, and would throw an error of its own type away.
-    // The record whose row this is, or none where it is no record's.
-    pub fn record(&self) -> Option<Record>
-        ensures { Exactly (λ x. row_means self.now ≡ model_of x) result }
-    {
-        let Row {
-            transaction,
-            kind,
-            seats,
-        } = *self;
-        let entry = Entry::of(kind, SeatSet::from_bits(seats))?;
-        Some(Record::new(transaction, entry))
+// The record whose row this is, if it is one's.
+impl TryFrom<Row> for Record {
+    type Error = NoRecord;
+
+    ghost try_from_gives = { λ row r. Exactly (λ x. row_means row ≡ model_of x) (result_ok r) };
+
+    fn try_from(row: Row) -> Result<Record, NoRecord> {
+        let Some(entry) = Entry::of(row.kind, SeatSet::from_bits(row.seats)) else {
+            return Err(NoRecord);
+        };
+        Ok(Record::new(row.transaction, entry))
     }
 }
+
+// A row that is no record's.
+#[derive(Clone, Copy, PartialEq, Eq, Debug)]
+pub struct NoRecord;
+
+impl fmt::Display for NoRecord {
+    ghost output = { λ _. Some (codes "the row is no record's") };
+
+    fn fmt<W: fmt::Write>(&self, f: &mut fmt::Formatter<W>) -> fmt::Result {
+        f.write_str("the row is no record's")
+    }
+}
+
+impl Error for NoRecord {}

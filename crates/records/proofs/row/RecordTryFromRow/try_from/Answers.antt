@@ -5,14 +5,14 @@ use Rattle.records.specs.declared.record.Entry.{Entry}
 use Rattle.records.specs.declared.record.Record.{Record}
 use Rattle.seats.proofs.ExactFacts.{exactly-some, exactly-has}
 use Rattle.records.proofs.ValueFacts.{same-model, same-rec}
-use Rattle.records.proofs.row.Row.record.Goals as goal
+use Rattle.records.proofs.row.RecordTryFromRow.try_from.Goals as goal
 
 pub returns : goal.returns
 returns c =
-    let w = row_means c.args.self.now in
+    let w = row_means c.args.row in
     let r = c.new.result in
-    let e = c.in_ok-entry.entry in
-    let is = exactly-has (λ (x : Entry). (w.kind ≡ kind_of x) × (c.from_bits.result.bits ≡ seats_of x)) e c.in_ok-entry.ensures in
+    let e = c.in-Some.entry in
+    let is = exactly-has (λ (x : Entry). (w.kind ≡ kind_of x) × (c.from_bits.result.bits ≡ seats_of x)) e c.in-Some.ensures in
     let h : e ≡ r.entry = sym c.new.ensures.content in
     let t : w.transaction ≡ r.transaction = sym c.new.ensures.number in
     let k : w.kind ≡ kind_of r.entry = is.0 ∙ ap kind_of h in
