@@ -69,7 +69,7 @@ Shows t x posted s Heard = ⊥
 
 abbrev pub PlaceOk : ℕ → State → List Note → ℕ → Place → Type 0
 PlaceOk t x posted s Vacant = Unit {0}
-PlaceOk t x posted s (Seated d y) = Shows t x posted s y
+PlaceOk t x posted s (Seated (d, y)) = Shows t x posted s y
 
 pub record TableOk (t : ℕ) (x : State) (ps : List Place) (seats : List Party) (posted : List Note) : Type 0 where
   pub covers : (s : ℕ) → get_or ps s Vacant ≡ Vacant → get_or seats s nobody ≡ nobody
@@ -103,7 +103,7 @@ AllSaid t seats posted = (s : ℕ) → (get_or seats s nobody ≡ nobody → ⊥
 
 -- ── lists of places ──
 
-vacant-seated : {A : Type 0} (d : Durability) (x : Standing) → Seated d x ≡ Vacant → A
+vacant-seated : {A : Type 0} (d : Durability) (x : Standing) → ◌≡◌ {A = Place} (Seated (d, x)) Vacant → A
 vacant-seated d x e = let z : ◌≡◌ {A = ℕ} 0 1 = cc in absurd (let n : ⊥ = omega arith in n)
 
 none-at : (q : Place → Bool) (ps : List Place) → q Vacant ≡ false → none_is q ps ≡ true → (s : ℕ) → q (get_or ps s Vacant) ≡ false
@@ -113,14 +113,14 @@ none-at q (p ∷ ps) v e (suc s) = none-at q ps v (and_parts (not (q p)) (none_i
 
 ask-vacant : (f : Durability → Bool) (p : Place) → ask f p ≡ Vacant → p ≡ Vacant
 ask-vacant f Vacant e = refl
-ask-vacant f (Seated d x) e = vacant-seated d _ e
+ask-vacant f (Seated (d, x)) e = vacant-seated d _ e
 
 -- the first vacant place is one, and can be filled
 pub vacant-at : (i : ℕ) (ps : List Place) (n : ℕ) → vacant_from i ps ≡ Some n
     → (j : ℕ) × (n ≡ i + j) × (get_or ps j Vacant ≡ Vacant) × ((p : Place) → get_or (set ps j p) j Vacant ≡ p)
 vacant-at i [] n e = let z : ◌≡◌ {A = ℕ} 0 1 = cc in absurd (let n : ⊥ = omega arith in n)
 vacant-at i (Vacant ∷ ps) n e = let q : i ≡ n = cc in (0, omega arith, refl, λ p. refl)
-vacant-at i (Seated d x ∷ ps) n e =
+vacant-at i (Seated (d, x) ∷ ps) n e =
     let h = vacant-at (suc i) ps n e in let q : n ≡ suc i + h.0 = h.1 in (suc h.0, omega arith, h.2, h.3)
 
 module _ (t : ℕ) where
@@ -169,37 +169,37 @@ module _ (t : ℕ) where
 
     ready-place : (s : ℕ) (p : Place) → PlaceOk t DurableVoting posted s p → asked p ≡ false → PlaceOk t Ready posted s p
     ready-place s Vacant o q = tt
-    ready-place s (Seated d Idle) o q = o
-    ready-place s (Seated d Asked) o q = sym q
-    ready-place s (Seated d Voted) o q = o
-    ready-place s (Seated d Gone) o q = o
-    ready-place s (Seated d Heard) o q = o
+    ready-place s (Seated (d, Idle)) o q = o
+    ready-place s (Seated (d, Asked)) o q = sym q
+    ready-place s (Seated (d, Voted)) o q = o
+    ready-place s (Seated (d, Gone)) o q = o
+    ready-place s (Seated (d, Heard)) o q = o
 
     durable-place : (s : ℕ) (p : Place) → PlaceOk t VolatileVoting posted s p → pending_volatile p ≡ false → PlaceOk t DurableVoting posted s (ask is_durable p)
     durable-place s Vacant o q = tt
-    durable-place s (Seated Volatile Idle) o q = sym q
-    durable-place s (Seated Volatile Asked) o q = refl
-    durable-place s (Seated Volatile Voted) o q = o
-    durable-place s (Seated Volatile Gone) o q = o
-    durable-place s (Seated Volatile Heard) o q = o
-    durable-place s (Seated Durable Idle) o q = refl
-    durable-place s (Seated Durable Asked) o q = refl
-    durable-place s (Seated Durable Voted) o q = o
-    durable-place s (Seated Durable Gone) o q = o
-    durable-place s (Seated Durable Heard) o q = o
+    durable-place s (Seated (Volatile, Idle)) o q = sym q
+    durable-place s (Seated (Volatile, Asked)) o q = refl
+    durable-place s (Seated (Volatile, Voted)) o q = o
+    durable-place s (Seated (Volatile, Gone)) o q = o
+    durable-place s (Seated (Volatile, Heard)) o q = o
+    durable-place s (Seated (Durable, Idle)) o q = refl
+    durable-place s (Seated (Durable, Asked)) o q = refl
+    durable-place s (Seated (Durable, Voted)) o q = o
+    durable-place s (Seated (Durable, Gone)) o q = o
+    durable-place s (Seated (Durable, Heard)) o q = o
 
     volatile-place : (s : ℕ) (p : Place) → PlaceOk t Active posted s p → PlaceOk t VolatileVoting posted s (ask is_volatile p)
     volatile-place s Vacant o = tt
-    volatile-place s (Seated Volatile Idle) o = refl
-    volatile-place s (Seated Volatile Asked) o = refl
-    volatile-place s (Seated Volatile Voted) o = o
-    volatile-place s (Seated Volatile Gone) o = o
-    volatile-place s (Seated Volatile Heard) o = o
-    volatile-place s (Seated Durable Idle) o = refl
-    volatile-place s (Seated Durable Asked) o = refl
-    volatile-place s (Seated Durable Voted) o = o
-    volatile-place s (Seated Durable Gone) o = o
-    volatile-place s (Seated Durable Heard) o = o
+    volatile-place s (Seated (Volatile, Idle)) o = refl
+    volatile-place s (Seated (Volatile, Asked)) o = refl
+    volatile-place s (Seated (Volatile, Voted)) o = o
+    volatile-place s (Seated (Volatile, Gone)) o = o
+    volatile-place s (Seated (Volatile, Heard)) o = o
+    volatile-place s (Seated (Durable, Idle)) o = refl
+    volatile-place s (Seated (Durable, Asked)) o = refl
+    volatile-place s (Seated (Durable, Voted)) o = o
+    volatile-place s (Seated (Durable, Gone)) o = o
+    volatile-place s (Seated (Durable, Heard)) o = o
 
     -- each Idle seat of a durability is asked
     asked-table : (x y : State) (f : Durability → Bool) (ps : List Place) → ((s : ℕ) → PlaceOk t y posted s (ask f (get_or ps s Vacant)))
@@ -303,15 +303,15 @@ module _ (t : ℕ) where
             why j y z e = grind arith
 
         -- the seat stands so from now on
-        placed : (d : Durability) (z : Standing) → ((x : State) → Shows t x posted s z) → phase c.state ≡ gathering → Ahead (with_place s (Seated d z) c)
+        placed : (d : Durability) (z : Standing) → ((x : State) → Shows t x posted s z) → phase c.state ≡ gathering → Ahead (with_place s (Seated (d, z)) c)
         placed d z q g = (
           g,
           record {
-            covers = λ j e. elim (set_cases c.table s (Seated d z) j Vacant) [
+            covers = λ j e. elim (set_cases c.table s (Seated (d, z)) j Vacant) [
               | inl a ↦ vacant-seated d z (sym a.1 ∙ e)
               | inr a ↦ (o g).covers j (sym a ∙ e)
             ];
-            places = λ j. elim (set_cases c.table s (Seated d z) j Vacant) [
+            places = λ j. elim (set_cases c.table s (Seated (d, z)) j Vacant) [
               | inl a ↦ subst (PlaceOk t c.state posted j) (sym a.1) (subst (λ (i : ℕ). Shows t c.state posted i z) a.0 (q c.state))
               | inr a ↦ subst (PlaceOk t c.state posted j) (sym a) ((o g).places j)
             ];
@@ -320,8 +320,8 @@ module _ (t : ℕ) where
 
         judge-good : (d : Durability) (y : Standing) (v : Verdict) → verdict k y ≡ v → phase c.state ≡ gathering → Good c (judge t s d v c)
         judge-good d y ignored e g = advance-good c c [] g (g, o g) (λ x n a. absurd a)
-        judge-good d y (stands z) e g = advance-good c (with_place s (Seated d z) c) [] g (placed d z (stands-shows y z e) g) (λ x n a. absurd a)
-        judge-good d y withdraws e g = rolls c (set c.table s (Seated d Gone)) g
+        judge-good d y (stands z) e g = advance-good c (with_place s (Seated (d, z)) c) [] g (placed d z (stands-shows y z e) g) (λ x n a. absurd a)
+        judge-good d y withdraws e g = rolls c (set c.table s (Seated (d, Gone))) g
         judge-good d y breaks e g = rolls c c.table g
 
         noted-good : Good c (hear_noted s k c)
@@ -339,7 +339,7 @@ module _ (t : ℕ) where
         committed-good : (d : Durability) (y : Standing) → phase c.state ≡ committed → Good c (hear_committed s d y c)
         committed-good d y g =
             cond_both (is_durable d && is_voted y) _ _ (Good c)
-            (λ e. cond_both (none_is voted_durable (set c.table s (Seated d Heard))) _ _ (λ c'. CoordGood t seats posted c c' [])
+            (λ e. cond_both (none_is voted_durable (set c.table s (Seated (d, Heard)))) _ _ (λ c'. CoordGood t seats posted c c' [])
             (λ f. ends c _ [] g refl (λ n a. absurd a)) (λ f. ends c _ [] g g (λ n a. absurd a)))
             (λ e. silent c o)
 
@@ -369,7 +369,7 @@ module _ (t : ℕ) where
 
         from-good : (p : Place) → is Rolled c.state ≡ false → Good c (hear_from t s k p c)
         from-good Vacant r = silent c o
-        from-good (Seated d y) r =
+        from-good (Seated (d, y)) r =
             cond_both (is_gone y) _ _ (Good c) (λ e. silent c o)
             (λ e. cond_both (gathers c.state) _ _ (Good c) (λ g. judge-good d y (verdict k y) refl (gathers-phase c.state g))
             (λ g. cond_both (is Noted c.state) _ _ (Good c) (λ f. noted-good) (λ f. decided-good d y (decided-phase c.state r g f))))
@@ -422,13 +422,13 @@ module _ (t : ℕ) (d : Durability) (c : Coord) (seats : List Party) (posted : L
   seat-good : (n : ℕ) → vacant_from 0 c.table ≡ Some n → (c.state ≡ Active) ⊎ (c.state ≡ VolatileVoting) → Fine (seat_at t d c (Some n))
   seat-good n v h =
       granted n free g
-      (record { still = λ e. record { covers = covers; places = places }; moves = inl refl; sent = each-given t Prepare asked n (Seated d (new_standing c.state d) ∷ []) c.state tt })
+      (record { still = λ e. record { covers = covers; places = places }; moves = inl refl; sent = each-given t Prepare asked n (Seated (d, new_standing c.state d) ∷ []) c.state tt })
     where
       g : phase c.state ≡ gathering
       g = elim h [ inl e ↦ ap phase e | inr e ↦ ap phase e ]
 
       p : Place
-      p = Seated d (new_standing c.state d)
+      p = Seated (d, new_standing c.state d)
 
       at : (get_or c.table n Vacant ≡ Vacant) × (get_or (set c.table n p) n Vacant ≡ p)
       at =
@@ -468,8 +468,8 @@ ready-said t ps seats posted o s r = go (get_or ps s Vacant) refl (o.places s)
   where
     go : (p : Place) → get_or ps s Vacant ≡ p → PlaceOk t Ready posted s p → Among t s Prepared posted ⊎ Among t s ReadOnly posted
     go Vacant e q = absurd (r (o.covers s e))
-    go (Seated d Idle) e q = absurd (both_ways true (sym q) refl)
-    go (Seated d Asked) e q = absurd (both_ways true (sym q) refl)
-    go (Seated d Voted) e q = inl q
-    go (Seated d Gone) e q = inr q
-    go (Seated d Heard) e q = absurd q
+    go (Seated (d, Idle)) e q = absurd (both_ways true (sym q) refl)
+    go (Seated (d, Asked)) e q = absurd (both_ways true (sym q) refl)
+    go (Seated (d, Voted)) e q = inl q
+    go (Seated (d, Gone)) e q = inr q
+    go (Seated (d, Heard)) e q = absurd q

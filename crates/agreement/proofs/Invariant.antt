@@ -128,7 +128,7 @@ shows_more t x a b s Heard f h = h
 
 place-more : (t : ℕ) (x : State) (a b : List Note) (s : ℕ) (p : Place) → ((n : Note) → In n a → In n b) → PlaceOk t x a s p → PlaceOk t x b s p
 place-more t x a b s Vacant f h = h
-place-more t x a b s (Seated d y) f h = shows_more t x a b s y f h
+place-more t x a b s (Seated (d, y)) f h = shows_more t x a b s y f h
 
 -- ── telling parties apart ──
 

@@ -100,7 +100,7 @@ is_gone Heard = false
 -- a seat of such a durability that stands so
 abbrev pub sits : (Durability → Bool) → (Standing → Bool) → Place → Bool
 sits f g Vacant = false
-sits f g (Seated d x) = f d && g x
+sits f g (Seated (d, x)) = f d && g x
 
 abbrev pub idle_volatile : Place → Bool
 idle_volatile = sits is_volatile is_idle
@@ -131,7 +131,7 @@ none_is q (p ∷ ps) = not (q p) && none_is q ps
 abbrev pub vacant_from : ℕ → List Place → Option ℕ
 vacant_from i [] = None
 vacant_from i (Vacant ∷ ps) = Some i
-vacant_from i (Seated d x ∷ ps) = vacant_from (suc i) ps
+vacant_from i (Seated (d, x) ∷ ps) = vacant_from (suc i) ps
 
 -- ── changes of the table ──
 
@@ -144,7 +144,7 @@ asked_if b x = cond b Asked x
 -- each Idle seat of such a durability becomes Asked
 abbrev pub ask : (Durability → Bool) → Place → Place
 ask f Vacant = Vacant
-ask f (Seated d x) = Seated d (asked_if (f d && is_idle x) x)
+ask f (Seated (d, x)) = Seated (d, asked_if (f d && is_idle x) x)
 
 abbrev pub in_state : State → Coord → Coord
 in_state x c = coord x c.table
@@ -154,7 +154,7 @@ with_place s p c = coord c.state (slice_set c.table s p)
 
 -- a set of seats as a table: each of them durable and Voted
 abbrev pub seated_if : Bool → Place
-seated_if b = cond b (Seated Durable Voted) Vacant
+seated_if b = cond b (Seated (Durable, Voted)) Vacant
 
 abbrev pub table_of : ℕ → List Place
 table_of seats = map (λ s. seated_if (member seats s)) (range_with_len 0 seat_count)
@@ -256,7 +256,7 @@ hear_noted s Committed c = faulty_peer s c
 
 -- Committed, once it is decided, from a Voted durable seat or another
 abbrev pub hear_committed : ℕ → Durability → Standing → Coord → CoordTurn
-hear_committed s d x c = cond (is_durable d && is_voted x) (gives (finished (with_place s (Seated d Heard) c)) []) (gives c [])
+hear_committed s d x c = cond (is_durable d && is_voted x) (gives (finished (with_place s (Seated (d, Heard)) c)) []) (gives c [])
 
 -- ── the calls; the coordinator of transaction t ──
 
@@ -284,8 +284,8 @@ module _ (t : ℕ) where
   abbrev pub seat_at : Durability → Coord → Option ℕ → CoordTurn
   seat_at d c None = refuses c cannot_register
   seat_at d c (Some n) =
-      let ns = to_each Prepare asked n (Seated d (new_standing c.state d) ∷ []) in
-      record { after = with_place n (Seated d (new_standing c.state d)) c; sent = ns; reply = seated n (length ns) }
+      let ns = to_each Prepare asked n (Seated (d, new_standing c.state d) ∷ []) in
+      record { after = with_place n (Seated (d, new_standing c.state d)) c; sent = ns; reply = seated n (length ns) }
 
   abbrev pub register : ℕ → Durability → Coord → CoordTurn
   register room d c =
@@ -346,8 +346,8 @@ module _ (t : ℕ) where
   -- receiving from seat s
   abbrev pub judge : ℕ → Durability → Verdict → Coord → CoordTurn
   judge s d ignored c = advance [] c
-  judge s d (stands x) c = advance [] (with_place s (Seated d x) c)
-  judge s d withdraws c = rolls_back (with_place s (Seated d Gone) c)
+  judge s d (stands x) c = advance [] (with_place s (Seated (d, x)) c)
+  judge s d withdraws c = rolls_back (with_place s (Seated (d, Gone)) c)
   judge s d breaks c = record { after = in_state Rolled c; sent = rollbacks c; reply = fails (invalid_peer s c.state (length (rollbacks c))) }
 
   abbrev pub hear_decided : ℕ → Kind → Durability → Standing → Coord → CoordTurn
@@ -375,7 +375,7 @@ module _ (t : ℕ) where
 
   abbrev pub hear_from : ℕ → Kind → Place → Coord → CoordTurn
   hear_from s k Vacant c = refuses c unknown_transaction
-  hear_from s k (Seated d x) c = hear_seated s k d x c
+  hear_from s k (Seated (d, x)) c = hear_seated s k d x c
 
   abbrev pub hear : ℕ → Kind → Coord → CoordTurn
   hear s k c = cond (is Rolled c.state) (hear_rolled s k c) (hear_from s k (slice_index_or c.table s Vacant) c)

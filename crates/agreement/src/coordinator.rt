@@ -1,5 +1,7 @@
-ghost use Rattle.std.specs.Prelude.{◌≡◌};
+ghost use Rattle.std.specs.Prelude.{◌≡◌, Some};
 ghost use Rattle.agreement.specs.States.{state_code, state_name};
+
+use std::fmt;
 
 // What a coordinator is doing with its transaction.
 #[derive(Clone, Copy, PartialEq, Eq, Debug)]
@@ -44,14 +46,10 @@ pub enum Standing {
     Heard,
 }
 
-// A place of the coordinator's table, which has one for each seat.
-#[derive(Clone, Copy)]
-pub enum Place {
-    Vacant,
-    Seated(Durability, Standing),
-}
+// A place of the coordinator's table, which has one for each seat: vacant, or whose participant and how it stands.
+pub type Place = Option<(Durability, Standing)>;
 
-// What the initiator is told of the transaction.
+// What the initiator is told of the transaction. Not an Option of two outcomes: an open one is an answer like the others.
 #[derive(Clone, Copy, PartialEq, Eq, Debug)]
 pub enum Outcome {
     Open,
@@ -59,14 +57,16 @@ pub enum Outcome {
     Aborted,
 }
 
-impl State {
-    // Its code in a trace.
-    pub fn code(self) -> u8
-        ensures { result ≡ state_code self }
-    {
-        self as u8
-    }
+// Its code in a trace.
+impl From<State> for u8 {
+    ghost from_gives = { λ state code. code ≡ state_code state };
 
+    fn from(state: State) -> u8 {
+        state as u8
+    }
+}
+
+impl State {
     // Its name.
     pub fn name(self) -> &'static str
         ensures { result.now ≡ state_name self }
@@ -81,5 +81,14 @@ impl State {
             State::Done => "Done",
             State::Rolled => "Rolled",
         }
+    }
+}
+
+// Its name.
+impl fmt::Display for State {
+    ghost output = { λ state. Some (state_name state) };
+
+    fn fmt<W: fmt::Write>(&self, f: &mut fmt::Formatter<W>) -> fmt::Result {
+        f.write_str(self.name())
     }
 }

@@ -1,8 +1,11 @@
-ghost use Rattle.std.specs.Prelude.{◌≡◌, Some};
+ghost use Rattle.std.specs.Prelude.{◌≡◌, Some, codes};
+ghost use Rattle.std.specs.Result.{result_ok};
 ghost use Rattle.seats.specs.Exactly.{Exactly};
 ghost use Rattle.agreement.specs.States.{part_code, part_name, ballot_name};
 
+use std::error::Error;
 use std::fmt;
+use std::str::FromStr;
 
 // What a durable participant is doing with its transaction.
 #[derive(Clone, Copy, PartialEq, Eq, Debug)]
@@ -37,14 +40,16 @@ pub enum Ballot {
     Aborted,
 }
 
-impl State {
-    // Its code in a trace.
-    pub fn code(self) -> u8
-        ensures { result ≡ part_code self }
-    {
-        self as u8
-    }
+// Its code in a trace.
+impl From<State> for u8 {
+    ghost from_gives = { λ state code. code ≡ part_code state };
 
+    fn from(state: State) -> u8 {
+        state as u8
+    }
+}
+
+impl State {
     // Its name.
     pub fn name(self) -> &'static str
         ensures { result.now ≡ part_name self }
@@ -73,16 +78,32 @@ impl fmt::Display for State {
     }
 }
 
-impl Ballot {
-    // The ballot of a name, or none.
-    pub fn from_name(name: &str) -> Option<Ballot>
-        ensures { Exactly (λ b. name.now ≡ ballot_name b) result }
-    {
+// The ballot of a name, if there is one.
+impl FromStr for Ballot {
+    type Err = UnknownBallot;
+
+    ghost from_str_gives = { λ name r. Exactly (λ b. name ≡ ballot_name b) (result_ok r) };
+
+    fn from_str(name: &str) -> Result<Ballot, UnknownBallot> {
         match name {
-            "prepared" => Some(Ballot::Prepared),
-            "readonly" => Some(Ballot::ReadOnly),
-            "aborted" => Some(Ballot::Aborted),
-            _ => None,
+            "prepared" => Ok(Ballot::Prepared),
+            "readonly" => Ok(Ballot::ReadOnly),
+            "aborted" => Ok(Ballot::Aborted),
+            _ => Err(UnknownBallot),
         }
     }
 }
+
+// A name that is no ballot's.
+#[derive(Clone, Copy, PartialEq, Eq, Debug)]
+pub struct UnknownBallot;
+
+impl fmt::Display for UnknownBallot {
+    ghost output = { λ _. Some (codes "a vote is prepared, readonly or aborted") };
+
+    fn fmt<W: fmt::Write>(&self, f: &mut fmt::Formatter<W>) -> fmt::Result {
+        f.write_str("a vote is prepared, readonly or aborted")
+    }
+}
+
+impl Error for UnknownBallot {}
