@@ -1,8 +1,8 @@
 -- Records that are held back over a log.
-use Rattle.std.proofs.Common.{◌≡◌, ℕ, ◌+◌, ◌-◌, ◌<◌, ◌≤◌, min, List, [], ◌∷◌, ◌++◌, map, length, get_or, take, set, Some, None, sym, refl, ap, ◌∙◌, ⊎_elim, arith, length-append, length-take}
+use Rattle.std.proofs.Common.{◌≡◌, ℕ, ◌+◌, ◌-◌, ◌<◌, ◌≤◌, min, List, [], ◌∷◌, ◌++◌, map, length, get_or, take, set, Some, sym, refl, ap, ◌∙◌, ⊎_elim, arith, length-append, length-take}
 use lib.ListN.{length-map}
 use lib.Seq.{take-nil}
-use Rattle.std.proofs.lemmas.List.{append-nil, append_assoc, take_all, take-append-le, take_more_set, map_more, map_push, length_push, get_or_append_left, get_or-append_right, get_or-take, get_or-map}
+use Rattle.std.proofs.lemmas.List.{append-nil, append_assoc, take_all, take-append-le, take-take, take-map, take_more_set, map_more, map_push, length_push, get_or_append_left, get_or-append_right}
 use Rattle.std.proofs.lemmas.Option.{slice_get-get_or, slice_get_past}
 use Rattle.std.proofs.lemmas.Bool.{cases_lt}
 use Rattle.std.specs.List.{slice_get}
@@ -29,11 +29,21 @@ pub first_of-length : (n : ℕ) (xs : List Record) → n ≤ length xs → lengt
 unfolding first_of
 first_of-length n xs h = simp (length-map, length-take) (omega arith)
 
-pub first_of-at : (n : ℕ) (xs : List Record) (i : ℕ) (d : Record) → i < n → n ≤ length xs → get_or (first_of n xs) i (model_of d) ≡ model_of (get_or xs i d)
+pub first_of-all : (n : ℕ) (xs : List Record) → length xs ≡ n → first_of n xs ≡ map model_of xs
 unfolding first_of
-first_of-at n xs i d h l =
-    let m : i < length (take n xs) = simp length-take (omega arith) in
-    get_or-map model_of (take n xs) i d (model_of d) m ∙ ap model_of (get_or-take n xs i d h)
+first_of-all n xs e = ap (map model_of) (take_all n xs (omega arith))
+
+-- as many of the first n as there are places for
+pub first_of-fitting : (n spare : ℕ) (xs : List Record) → n ≤ length xs → map model_of (take (min n spare) xs) ≡ take spare (first_of n xs)
+unfolding first_of
+first_of-fitting n spare xs h =
+    let e : length (take n xs) ≡ n = simp length-take (omega arith) in
+    ap (map model_of)
+    (⊎_elim
+    (λ (l : n < spare). let m : min n spare ≡ n = omega arith in ap (λ (k : ℕ). take k xs) m ∙ sym (take_all spare (take n xs) (omega arith)))
+    (λ (l : spare ≤ n). let m : min n spare ≡ spare = omega arith in ap (λ (k : ℕ). take k xs) m ∙ sym (take-take spare n xs l))
+    (cases_lt n spare))
+    ∙ sym (take-map model_of spare (take n xs))
 
 pub fitted_none : (cap : ℕ) (s l : List Rec) → fitted cap s l [] ≡ l
 unfolding fitted
@@ -76,19 +86,20 @@ read_below cap s l xs i h =
     slice_get-get_or (s ++ l) i blank m
     ∙ sym (ap (λ (z : List Rec). slice_get z i) (sym (append_assoc s l t)) ∙ slice_get-get_or ((s ++ l) ++ t) i blank n ∙ ap Some (get_or_append_left (s ++ l) t blank i m))
 
-pub read_held : (cap : ℕ) (s l xs : List Rec) (i : ℕ) (d : Rec) → length s + length l ≤ i → i - (length s + length l) < min (length xs) (cap - (length s + length l)) → Some (get_or xs (i - (length s + length l)) d) ≡ slice_get (s ++ fitted cap s l xs) i
-unfolding fitted
-read_held cap s l xs i d h k =
-    let sp : ℕ = cap - (length s + length l) in
-    let t : List Rec = take sp xs in
-    let n : i < length ((s ++ l) ++ t) = simp (length-append, length-take) (omega arith) in
-    sym (ap (λ (z : List Rec). slice_get z i) (sym (append_assoc s l t)) ∙ slice_get-get_or ((s ++ l) ++ t) i d n
-    ∙ ap Some (get_or-append_right (s ++ l) t (length s + length l) i d (length-append s l) h ∙ get_or-take sp xs (i - (length s + length l)) d (omega arith)))
+behind : (xs ys : List Rec) (n i : ℕ) → length xs ≡ n → n ≤ i → slice_get ys (i - n) ≡ slice_get (xs ++ ys) i
+behind xs ys n i e h =
+    ⊎_elim
+    (λ (l : i - n < length ys).
+    let m : i < length (xs ++ ys) = simp length-append (omega arith) in
+    slice_get-get_or ys (i - n) blank l ∙ ap Some (sym (get_or-append_right xs ys n i blank e h)) ∙ sym (slice_get-get_or (xs ++ ys) i blank m))
+    (λ (l : length ys ≤ i - n). slice_get_past ys (i - n) l ∙ sym (slice_get_past (xs ++ ys) i (simp length-append (omega arith))))
+    (cases_lt (i - n) (length ys))
 
-pub read_none : (cap : ℕ) (s l xs : List Rec) (i : ℕ) → length s + length l ≤ i → min (length xs) (cap - (length s + length l)) ≤ i - (length s + length l) → None ≡ slice_get (s ++ fitted cap s l xs) i
+pub read_above : (cap : ℕ) (s l xs : List Rec) (i : ℕ) → length s + length l ≤ i → slice_get (take (cap - (length s + length l)) xs) (i - (length s + length l)) ≡ slice_get (s ++ fitted cap s l xs) i
 unfolding fitted
-read_none cap s l xs i h k =
-    sym (slice_get_past (s ++ (l ++ take (cap - (length s + length l)) xs)) i (simp (length-append, length-take) (omega arith)))
+read_above cap s l xs i h =
+    let t : List Rec = take (cap - (length s + length l)) xs in
+    behind (s ++ l) t (length s + length l) i (length-append s l) h ∙ ap (λ (z : List Rec). slice_get z i) (append_assoc s l t)
 
 pub kept-part : (cap k : ℕ) (s l xs : List Rec) → k ≤ length l → take k l ≡ take k (fitted cap s l xs)
 unfolding fitted

@@ -1,3 +1,4 @@
 pub mod GatherFacts
+pub mod ListingFacts
 pub mod LogFacts
 pub mod TableFacts

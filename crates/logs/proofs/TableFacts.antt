@@ -1,6 +1,6 @@
 -- The two lists of a table, of which the first b records count and the first a of these are safe.
 use Rattle.std.proofs.Common.{◌≡◌, ℕ, ◌+◌, ◌-◌, ◌<◌, ◌≤◌, List, [], ◌∷◌, ◌++◌, length, get_or, take, drop, Some, None, sym, ap, ◌∙◌, arith, length-append, length-drop, take-append-drop, length-take}
-use Rattle.std.proofs.lemmas.List.{length-take-le, drop_all, drop-take, take-take, take-append-le, drop-append-le, get_or-take}
+use Rattle.std.proofs.lemmas.List.{length-take-le, length_push, take_all, drop_all, drop-take, take-take, take-append-le, drop-append-le, get_or-take}
 use Rattle.std.proofs.lemmas.Option.{slice_get-get_or, slice_get_past}
 use Rattle.std.specs.List.{slice_get}
 use Rattle.records.specs.Recs.{Rec}
@@ -27,6 +27,10 @@ module _ (a b : ℕ) (xs ys : List Rec) (r : Rec) (grown : take (b + 1) ys ≡ t
   unfolding loose_of
   loose_of-add = ap (drop a) grown ∙ drop-append-le a (take b xs) _ reaches
 
+-- a table of which all counts, and one record more
+pub grown : (n : ℕ) (xs : List Rec) (r : Rec) → length xs ≡ n → take (n + 1) (xs ++ r ∷ []) ≡ take n xs ++ r ∷ []
+grown n xs r e = take_all (n + 1) (xs ++ r ∷ []) (rw length_push (omega arith)) ∙ ap (λ (ys : List Rec). ys ++ r ∷ []) (sym (take_all n xs (omega arith)))
+
 pub safe_of-all : (a b : ℕ) (xs : List Rec) → safe_of b b xs ≡ safe_of a b xs ++ loose_of a b xs
 unfolding safe_of
 safe_of-all a b xs = take-take b b xs (omega arith) ∙ sym (joined a b xs)
@@ -34,6 +38,11 @@ safe_of-all a b xs = take-take b b xs (omega arith) ∙ sym (joined a b xs)
 pub loose_of-none : (b : ℕ) (xs : List Rec) → loose_of b b xs ≡ []
 unfolding loose_of
 loose_of-none b xs = drop_all b (take b xs) (simp length-take (omega arith))
+
+-- a table that is cut off behind its safe records
+pub safe_of-kept : (b : ℕ) (xs : List Rec) → safe_of b b (take b xs) ≡ safe_of b b xs
+unfolding safe_of
+safe_of-kept b xs = ap (take b) (take-take b b xs (omega arith))
 
 pub read-in : (a b : ℕ) (xs : List Rec) (i : ℕ) (d : Rec) → i < b → b ≤ length xs → Some (get_or xs i d) ≡ slice_get (safe_of a b xs ++ loose_of a b xs) i
 read-in a b xs i d h l =

@@ -2,7 +2,9 @@ pub mod Adding
 pub mod Bounds
 pub mod Gatherers
 pub mod Gathering
+pub mod Listing
 pub mod Rows
 pub mod Sizes
 pub mod Tables
+pub mod Texts
 pub mod Trays

@@ -11,6 +11,7 @@ pub const HELD_RECORDS: usize = 8;
 #[derive(Drop)]
 pub struct Gatherer<L> {
     below: L,
+    // an `ArrayVec` would fill its free places with a default, and a record has none
     held: [Record; HELD_RECORDS],
     holding: usize,
     ghost few: { holding ≤ held_length },

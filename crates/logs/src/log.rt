@@ -1,16 +1,30 @@
-ghost use Rattle.std.specs.Prelude.{◌≡◌, ℕ, ◌+◌, ◌-◌, ◌≤◌, List, [], ◌++◌, length, take};
+ghost use Rattle.std.specs.Prelude.{◌≡◌, ℕ, ◌+◌, ◌-◌, ◌≤◌, List, [], ◌++◌, length, take, Some};
 ghost use Rattle.std.specs.List.{slice_get};
 ghost use Rattle.std.specs.Option.{option_map};
 ghost use Rattle.records.specs.Recs.{Rec, model_of};
 ghost use Rattle.logs.specs.Adding.{add_answer, loose_after};
+ghost use Rattle.logs.specs.Texts.{full_text};
 
 use records::record::Record;
+use std::error::Error;
+use std::fmt;
 
 // The fault of a full log: how many records it can hold.
 #[derive(Clone, Copy, PartialEq, Eq, Debug)]
 pub struct Full {
     pub capacity: usize,
 }
+
+impl fmt::Display for Full {
+    ghost output = { λ full. Some (full_text full) };
+
+    fn fmt<W: fmt::Write>(&self, f: &mut fmt::Formatter<W>) -> fmt::Result {
+        let capacity = self.capacity;
+        write!(f, "the log is full: its capacity is {capacity}")
+    }
+}
+
+impl Error for Full {}
 
 // A log of records. A safe record outlasts every power cut; a loose one is written and not yet secured, and may be lost.
 pub trait Log {

@@ -1,4 +1,4 @@
-ghost use Rattle.std.specs.Prelude.{◌≡◌, ◌+◌, ◌-◌, ◌≤◌, [], ◌++◌, length, take};
+ghost use Rattle.std.specs.Prelude.{◌≡◌, ◌+◌, ◌-◌, [], ◌++◌, map, length, take};
 ghost use Rattle.records.specs.Recs.{model_of};
 ghost use Rattle.logs.specs.Adding.{loose_after, add_answer};
 ghost use Rattle.logs.specs.Bounds.{fitted-within, fitted-atmost};
@@ -41,7 +41,7 @@ impl<L: Log> Log for Gatherer<L> {
             self.holding += 1;
             return Ok(());
         }
-        pass_down(&mut self.below, &self.held, HELD_RECORDS);
+        pass_down(&mut self.below, &self.held);
         self.held[0] = record;
         self.holding = 1;
         Ok(())
@@ -54,7 +54,7 @@ impl<L: Log> Log for Gatherer<L> {
         ensures loose { loose_in L.Log self.new ≡ [] }
         ensures holding { self.new.holding ≡ 0 }
     {
-        pass_down(&mut self.below, &self.held, self.holding);
+        pass_down(&mut self.below, &self.held[..self.holding]);
         self.holding = 0;
         self.below.secure();
     }
@@ -64,11 +64,8 @@ impl<L: Log> Log for Gatherer<L> {
         if i < under {
             return self.below.read(i);
         }
-        if i - under < self.holding.min(self.below.spare()) {
-            Some(self.held[i - under])
-        } else {
-            None
-        }
+        let fitting = self.holding.min(self.below.spare());
+        self.held[..fitting].get(i - under).copied()
     }
 
     fn count(&self) -> usize {
@@ -91,14 +88,13 @@ impl<L: Log> Log for Gatherer<L> {
     }
 }
 
-// Adds the first `count` of the records to a log, in order, as far as they fit.
-fn pass_down<L: Log>(below: &mut L, records: &[Record], count: usize)
-    requires { count ≤ length records.now }
+// Adds records to a log, in order, as far as they fit.
+fn pass_down<L: Log>(below: &mut L, records: &[Record])
     ensures capacity { L.Log.capacity below.new ≡ L.Log.capacity below.old }
     ensures safe { L.Log.safe below.new ≡ L.Log.safe below.old }
-    ensures loose { L.Log.loose below.new ≡ fitted (L.Log.capacity below.old) (L.Log.safe below.old) (L.Log.loose below.old) (first_of count records.now) }
+    ensures loose { L.Log.loose below.new ≡ fitted (L.Log.capacity below.old) (L.Log.safe below.old) (L.Log.loose below.old) (map model_of records.now) }
 {
-    for i in 0..count {
-        let _ = below.add(records[i]);
+    for record in records {
+        let _ = below.add(*record);
     }
 }

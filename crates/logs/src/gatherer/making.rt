@@ -32,12 +32,7 @@ impl<L: Log> Gatherer<L> {
     pub fn into_below(self) -> L
         ensures { result ≡ self.below }
     {
-        let Gatherer {
-            below,
-            held: _,
-            holding: _,
-        } = self;
-        below
+        self.below
     }
 
     // How many records it holds back.

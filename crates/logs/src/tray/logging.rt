@@ -1,4 +1,5 @@
 ghost use Rattle.std.specs.Prelude.{◌≡◌, min, [], map, length};
+ghost use Rattle.arrayvec.specs.ArrayVec.{array_vec_len};
 ghost use Rattle.logs.specs.Bounds.{table-within, smaller};
 ghost use Rattle.logs.specs.Sizes.{tray_length};
 ghost use Rattle.logs.specs.Trays.{safe_in, loose_in};
@@ -6,6 +7,7 @@ ghost use Rattle.records.specs.Rows.{row_means};
 
 use super::{TRAY_ROWS, Tray};
 use crate::log::{Full, Log};
+use arrayvec::ArrayVec;
 use records::record::Record;
 use records::row::Row;
 
@@ -15,15 +17,9 @@ impl Tray {
         ensures safe { safe_in result ≡ [] }
         ensures loose { loose_in result ≡ [] }
     {
-        let blank = Row {
-            transaction: 0,
-            kind: 0,
-            seats: 0,
-        };
         Tray {
-            rows: [blank; TRAY_ROWS],
+            rows: ArrayVec::new(),
             secured: 0,
-            used: 0,
         }
     }
 }
@@ -37,35 +33,30 @@ impl Log for Tray {
 
     ghost survives = { λ t n. min (length (loose_in t)) n };
 
-    ghost within = { λ t. table-within t.secured t.used tray_length (map row_means t.rows) t.fits };
+    ghost within = { λ t. table-within t.secured (array_vec_len t.rows) tray_length (map row_means t.rows.items) t.fits };
 
     ghost atmost = { λ t n. smaller (length (loose_in t)) n };
 
     fn add(&mut self, record: Record) -> Result<(), Full> {
-        if self.used >= TRAY_ROWS {
+        if self.rows.is_full() {
             return Err(Full {
                 capacity: TRAY_ROWS,
             });
         }
-        self.rows[self.used] = Row::of(&record);
-        self.used += 1;
+        self.rows.push(Row::from(&record));
         Ok(())
     }
 
     fn secure(&mut self) {
-        self.secured = self.used;
+        self.secured = self.rows.len();
     }
 
     fn read(&self, i: usize) -> Option<Record> {
-        if i >= self.used {
-            return None;
-        }
-        let row = self.rows[i];
-        row.record()
+        Record::try_from(*self.rows.get(i)?).ok()
     }
 
     fn count(&self) -> usize {
-        self.used
+        self.rows.len()
     }
 
     fn capacity(&self) -> usize {
@@ -73,8 +64,8 @@ impl Log for Tray {
     }
 
     fn restart(&mut self, n: u32) {
-        let survivors = (self.used - self.secured).min(n as usize);
+        let survivors = (self.rows.len() - self.secured).min(n as usize);
         self.secured += survivors;
-        self.used = self.secured;
+        self.rows.truncate(self.secured);
     }
 }

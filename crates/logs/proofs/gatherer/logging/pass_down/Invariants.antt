@@ -3,8 +3,8 @@ use Rattle.logs.specs.Gathering.{fitted}
 use Rattle.logs.specs.Gathering.{first_of}
 use Rattle.logs.proofs.gatherer.logging.pass_down.Given as goal
 
-abbrev pub invariant-loop-i : goal.invariant-loop-i
-invariant-loop-i g l =
+abbrev pub invariant-loop-record : goal.invariant-loop-record
+invariant-loop-record g l =
     (g.L.Log.capacity l.below ≡ g.L.Log.capacity l.initial.below)
     × (g.L.Log.safe l.below ≡ g.L.Log.safe l.initial.below)
-    × (g.L.Log.loose l.below ≡ fitted (g.L.Log.capacity l.initial.below) (g.L.Log.safe l.initial.below) (g.L.Log.loose l.initial.below) (first_of l.i l.records))
+    × (g.L.Log.loose l.below ≡ fitted (g.L.Log.capacity l.initial.below) (g.L.Log.safe l.initial.below) (g.L.Log.loose l.initial.below) (first_of l.record-index l.records))

@@ -4,7 +4,7 @@ use Rattle.logs.specs.Gathering.{fitted}
 use Rattle.records.specs.Recs.{Rec, model_of}
 use Rattle.logs.specs.Gathering.{first_of}
 use Rattle.logs.proofs.LogFacts.{loose-off, answer-on, answer-off}
-use Rattle.logs.proofs.GatherFacts.{first_of-none, first_of-set, first_of-length, fitted_none, fitted-length, fitted-more}
+use Rattle.logs.proofs.GatherFacts.{first_of-none, first_of-set, first_of-all, first_of-length, fitted_none, fitted-length, fitted-more}
 use Rattle.logs.proofs.gatherer.logging.GathererLog.add.Goals as goal
 
 pub returns-then-spare-self : goal.returns-then-spare-self
@@ -62,6 +62,6 @@ returns g c =
     ∙ ap (λ (z : List Rec). loose_after (m.capacity u) (m.safe u) z x) (fitted_none (m.capacity u) (m.safe u) (m.loose u)) in
     let p = c.pass_down.ensures.capacity in
     let q = c.pass_down.ensures.safe in
-    let r : m.loose u ≡ fitted (m.capacity b) (m.safe b) (m.loose b) (first_of 8 t.held) = c.pass_down.ensures.loose in
+    let r : m.loose u ≡ fitted (m.capacity b) (m.safe b) (m.loose b) (first_of 8 t.held) = c.pass_down.ensures.loose ∙ ap (fitted (m.capacity b) (m.safe b) (m.loose b)) (sym (first_of-all 8 t.held t.long)) in
     let old : loose_after (m.capacity u) (m.safe u) (m.loose u) x ≡ loose_after (m.capacity b) (m.safe b) (fitted (m.capacity b) (m.safe b) (m.loose b) hs) x = cc in
     record { capacity = p; safe = q; loose = new ∙ old; answer = answer-on (m.capacity b) (m.safe b) (fitted (m.capacity b) (m.safe b) (m.loose b) hs) (omega arith); holding = search rules }

@@ -1,8 +1,18 @@
-use Rattle.std.proofs.Common.{◌≡◌, ℕ, ◌+◌, ◌-◌, length, get_or, Some, sym, ap, ◌∙◌, arith}
-use Rattle.records.specs.Recs.{model_of}
+use Rattle.std.proofs.Common.{◌≡◌, ℕ, ◌+◌, ◌-◌, List, map, length, get_or, take, is_some, min, ltb, Some, None, Option, Bor, sym, ap, ◌∙◌, arith}
+use Rattle.std.proofs.lemmas.Bool.{ltb-true, ltb-false}
+use Rattle.std.proofs.lemmas.Option.{slice_get-map, slice_get-get_or, slice_get_past}
+use Rattle.std.specs.List.{slice_get}
+use Rattle.std.specs.Option.{IfSome, option_copied, option_map}
+use Rattle.records.specs.Recs.{Rec, model_of}
+use Rattle.records.specs.declared.record.Record.{Record}
 use Rattle.logs.specs.Gathering.{first_of}
-use Rattle.logs.proofs.GatherFacts.{first_of-length, first_of-at, read_below, read_held, read_none}
+use Rattle.logs.proofs.GatherFacts.{first_of-fitting, read_below, read_above}
 use Rattle.logs.proofs.gatherer.logging.GathererLog.read.Goals as goal
+
+-- what `get` gives of a slice
+got : (xs : List Record) (k : ℕ) (o : Option (Bor Record)) → is_some o ≡ ltb k (length xs) → IfSome o (λ x. x.now ≡ get_or xs k x.now) → option_copied o ≡ slice_get xs k
+got xs k (Some x) a b = ap Some b ∙ sym (slice_get-get_or xs k x.now (ltb-true k (length xs) (sym a)))
+got xs k None a b = sym (slice_get_past xs k (ltb-false k (length xs) (sym a)))
 
 pub returns-then-i-under : goal.returns-then-i-under
 returns-then-i-under g c =
@@ -11,24 +21,22 @@ returns-then-i-under g c =
     let b = t.below in
     c.read.ensures ∙ read_below (m.capacity b) (m.safe b) (m.loose b) (first_of t.holding t.held) c.args.i (omega arith)
 
-pub returns-then-i-under-2 : goal.returns-then-i-under-2
-returns-then-i-under-2 g c =
+pub returns : goal.returns
+returns g c =
     let m = g.L.Log in
     let t = c.args.self.now in
     let b = t.below in
-    let x = c.index-self-i.result in
-    let under = c.count-under.result in
+    let i = c.args.i in
+    let n = length (m.safe b) + length (m.loose b) in
+    let spare = m.capacity b - n in
     let hs = first_of t.holding t.held in
-    let e : under ≡ length (m.safe b) + length (m.loose b) = c.count-under.ensures in
-    let f = first_of-length t.holding t.held (omega arith) in
-    let at = first_of-at t.holding t.held (c.args.i - under) x (omega arith) (omega arith) in
-    ap Some (sym at ∙ ap (λ (z : ℕ). get_or hs (c.args.i - z) (model_of x)) e)
-    ∙ read_held (m.capacity b) (m.safe b) (m.loose b) hs c.args.i (model_of x) (omega arith) (omega arith)
-
-pub returns-else-i-under-2 : goal.returns-else-i-under-2
-returns-else-i-under-2 g c =
-    let m = g.L.Log in
-    let t = c.args.self.now in
-    let b = t.below in
-    let f = first_of-length t.holding t.held (omega arith) in
-    read_none (m.capacity b) (m.safe b) (m.loose b) (first_of t.holding t.held) c.args.i (omega arith) (omega arith)
+    let es = take c.min-fitting.result t.held in
+    let under : c.count-under.result ≡ n = c.count-under.ensures in
+    let k = i - c.count-under.result in
+    let h = c.get.ensures.lookup in
+    let read : option_map model_of c.copied.result ≡ slice_get (map model_of es) k =
+    ap (option_map model_of) (c.copied.ensures ∙ got es k c.get.result h.0 h.1) ∙ sym (slice_get-map model_of es k) in
+    let f : c.min-fitting.result ≡ min t.holding spare = omega (arith, c.spare.ensures) in
+    let fits : map model_of es ≡ take spare hs = ap (λ (j : ℕ). map model_of (take j t.held)) f ∙ first_of-fitting t.holding spare t.held (omega arith) in
+    read ∙ ap (λ (z : List Rec). slice_get z k) fits ∙ ap (λ (j : ℕ). slice_get (take spare hs) (i - j)) under
+    ∙ read_above (m.capacity b) (m.safe b) (m.loose b) hs i (omega arith)

@@ -5,6 +5,7 @@ use Rattle.logs.proofs.GatherFacts.{first_of-none, fitted_none}
 use Rattle.logs.proofs.gatherer.logging.GathererLog.secure.Goals as goal
 
 pub returns : goal.returns
+unfolding first_of
 returns g c =
     let m = g.L.Log in
     let t = c.args.self.now in
