@@ -9,6 +9,7 @@ use Rattle.seats.specs.Exactly.{Exactly}
 use Rattle.seats.specs.declared.seat.Seat.{Seat}
 use Rattle.words.specs.Kinds.{kind_number, kind_at}
 use Rattle.words.specs.Notes.{Note, note_of, row_of, note_by, note_in}
+use Rattle.words.specs.Rows.{Reads}
 use Rattle.words.specs.declared.kind.Kind.{Kind}
 use Rattle.words.specs.declared.kind.Kind.TheVariants.{Prepare, Commit, Rollback, Prepared, ReadOnly, Aborted, Committed}
 use Rattle.words.specs.declared.notification.Notification.{Notification}
@@ -81,3 +82,6 @@ exact_read w (Some n) e = exactly-some (λ (x : Notification). w ≡ row_of (not
 
     is : w ≡ row_of (note_of n)
     is = back (ltb w.seat 16) (kind_at w.kind) (note_of n) refl e
+
+pub reads : (w : Row) (o : Option Notification) → option_map note_of o ≡ note_in w → Reads w o
+reads w o e = record { exact = exact_read w o e; note = e }

@@ -1,7 +1,7 @@
 -- What a notification means, and the row that stands for it.
-use Rattle.std.specs.Prelude.{ℕ, ◌+◌, ◌*◌, Bool, true, false, cond, Some, None, Option, nat_lt}
+use Rattle.std.specs.Prelude.{ℕ, ◌+◌, ◌*◌, Bool, true, false, cond, List, ◌++◌, Some, None, Option, codes, decimal, nat_lt}
 use Rattle.seats.specs.Sizes.{seat_count}
-use Rattle.words.specs.Kinds.{kind_number, kind_at, goes_up}
+use Rattle.words.specs.Kinds.{kind_number, kind_at, goes_up, kind_name}
 use Rattle.words.specs.declared.kind.Kind.{Kind}
 use Rattle.words.specs.declared.notification.Notification.{Notification}
 use Rattle.words.specs.declared.row.Row.{Row}
@@ -30,3 +30,7 @@ note_in w = note_by w.transaction w.seat (nat_lt w.seat seat_count) (kind_at w.k
 -- the cell of a notification on a board: two for each seat, the second for what goes to the coordinator
 abbrev pub cell_of : Note → ℕ
 cell_of n = 2 * n.seat + cond (goes_up n.kind) 1 0
+
+-- how a notification is printed
+abbrev pub note_text : Note → List ℕ
+note_text n = codes "transaction " ++ (decimal n.transaction ++ (codes ", seat " ++ (decimal n.seat ++ (codes ", " ++ kind_name n.kind))))

@@ -7,7 +7,7 @@ use std::fmt;
 
 // Why a call refused, or did other than was asked. `S` is the state of the party that was called.
 // Checks run in the order of the faults' numbers.
-#[derive(Clone, Copy)]
+#[derive(Clone, Copy, PartialEq, Eq, Debug)]
 pub enum Fault<S> {
     // 1: the outbox has fewer places than the party may need.
     ShortOutbox,

@@ -10,12 +10,11 @@ pub fn lay(outbox: &mut [Row], notifications: &[Notification]) -> Option<usize>
     ensures answer { result ≡ (if nat_le (length notifications.now) (length outbox.old) then Some (length notifications.now) else None) }
     ensures rows { outbox.new ≡ (if nat_le (length notifications.now) (length outbox.old) then laid (rows_of notifications.now) outbox.old else outbox.old) }
 {
-    let count = notifications.len();
-    if count > outbox.len() {
+    if notifications.len() > outbox.len() {
         return None;
     }
-    for i in 0..count {
-        outbox[i] = Row::of(notifications[i]);
+    for (i, notification) in notifications.iter().enumerate() {
+        outbox[i] = Row::from(*notification);
     }
-    Some(count)
+    Some(notifications.len())
 }

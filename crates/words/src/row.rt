@@ -1,11 +1,13 @@
-ghost use Rattle.std.specs.Prelude.{◌≡◌};
-ghost use Rattle.std.specs.Option.{option_map};
-ghost use Rattle.seats.specs.Exactly.{Exactly};
-ghost use Rattle.words.specs.Notes.{note_of, note_in, row_of};
+ghost use Rattle.std.specs.Prelude.{◌≡◌, Some, codes};
+ghost use Rattle.std.specs.Result.{result_ok};
+ghost use Rattle.words.specs.Notes.{note_of, row_of};
+ghost use Rattle.words.specs.Rows.{Reads};
 
 use crate::kind::Kind;
 use crate::notification::Notification;
 use seats::seat::Seat;
+use std::error::Error;
+use std::fmt;
 
 // A notification as a plain row of numbers, which any numbers may fill: outboxes and lines hold these, and read them back with a check.
 #[derive(Clone, Copy, PartialEq, Eq, Debug)]
@@ -22,29 +24,50 @@ impl Row {
         seat: 0,
         kind: 0,
     };
+}
 
-    // The row of a notification.
-    pub fn of(notification: Notification) -> Row
-        ensures { result ≡ row_of (note_of notification) }
-    {
+// The row of a notification.
+impl From<Notification> for Row {
+    ghost from_gives = { λ n w. w ≡ row_of (note_of n) };
+
+    fn from(notification: Notification) -> Row {
         Row {
             transaction: notification.transaction,
             seat: notification.seat.number(),
-            kind: notification.kind.number(),
+            kind: u8::from(notification.kind),
         }
     }
+}
 
-    // The notification whose row this is, or none where it is no notification's.
-    pub fn notification(self) -> Option<Notification>
-        ensures exact { Exactly (λ n. self ≡ row_of (note_of n)) result }
-        ensures note { option_map note_of result ≡ note_in self }
-    {
-        let seat = Seat::new(self.seat)?;
-        let kind = Kind::from_number(self.kind)?;
-        Some(Notification {
-            transaction: self.transaction,
+// The notification whose row this is, if it is one's.
+impl TryFrom<Row> for Notification {
+    type Error = NoNotification;
+
+    ghost try_from_gives = { λ w r. Reads w (result_ok r) };
+
+    fn try_from(row: Row) -> Result<Notification, NoNotification> {
+        let seat = Seat::new(row.seat).ok_or(NoNotification)?;
+        let Ok(kind) = Kind::try_from(row.kind) else {
+            return Err(NoNotification);
+        };
+        Ok(Notification {
+            transaction: row.transaction,
             seat,
             kind,
         })
     }
 }
+
+// A row that is no notification's.
+#[derive(Clone, Copy, PartialEq, Eq, Debug)]
+pub struct NoNotification;
+
+impl fmt::Display for NoNotification {
+    ghost output = { λ _. Some (codes "the row is no notification's") };
+
+    fn fmt<W: fmt::Write>(&self, f: &mut fmt::Formatter<W>) -> fmt::Result {
+        f.write_str("the row is no notification's")
+    }
+}
+
+impl Error for NoNotification {}
