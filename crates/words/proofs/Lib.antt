@@ -1,2 +1,3 @@
+pub mod FaultFacts
 pub mod NoteFacts
 pub mod OutboxFacts

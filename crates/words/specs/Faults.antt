@@ -1,5 +1,6 @@
 -- The number of each fault, how many notifications were written all the same, and what it says.
-use Rattle.std.specs.Prelude.{ℕ, List, codes}
+use Rattle.std.specs.Prelude.{ℕ, List, [], ◌++◌, Some, Option, codes, decimal}
+use Rattle.std.specs.Option.{option_map}
 use Rattle.words.specs.declared.fault.Fault.{Fault}
 use Rattle.words.specs.declared.fault.Fault.TheVariants.{ShortOutbox, OtherRight, InvalidState, CannotRegister, OtherTransaction, Misdirected, UnknownTransaction, InvalidPeer, Inconsistent, LogFull, NoPlace, Malformed}
 
@@ -45,3 +46,22 @@ module _ {S : Type 0} where
   fault_text (LogFull full sent) = codes "the log is full"
   fault_text (NoPlace spare sent) = codes "the log has no place for the vote and its outcome"
   fault_text (Malformed n) = codes "a record is malformed"
+
+  -- the values that it prints behind its text, where the state prints as `shown` says
+  abbrev pub fault_values : (S → Option (List ℕ)) → Fault S → Option (List ℕ)
+  fault_values shown ShortOutbox = Some []
+  fault_values shown OtherRight = Some []
+  fault_values shown InvalidState = Some []
+  fault_values shown CannotRegister = Some []
+  fault_values shown OtherTransaction = Some []
+  fault_values shown Misdirected = Some []
+  fault_values shown UnknownTransaction = Some []
+  fault_values shown (InvalidPeer seat state sent) = option_map (λ text. codes " (seat " ++ (decimal seat.value ++ (codes ", in " ++ (text ++ codes ")")))) (shown state)
+  fault_values shown Inconsistent = Some []
+  fault_values shown (LogFull full sent) = Some (codes " (capacity " ++ (decimal full.capacity ++ codes ")"))
+  fault_values shown (NoPlace spare sent) = Some (codes " (" ++ (decimal spare ++ codes " left)"))
+  fault_values shown (Malformed n) = Some (codes " (record " ++ (decimal n ++ codes ")"))
+
+  -- what it prints: its number, its text and its values
+  abbrev pub fault_line : (S → Option (List ℕ)) → Fault S → Option (List ℕ)
+  fault_line shown x = option_map (λ values. codes "fault " ++ (decimal (fault_number x) ++ (codes ", " ++ (fault_text x ++ values)))) (fault_values shown x)

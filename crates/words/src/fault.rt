@@ -1,8 +1,9 @@
 ghost use Rattle.std.specs.Prelude.{◌≡◌};
-ghost use Rattle.words.specs.Faults.{fault_number, fault_sent, fault_text};
+ghost use Rattle.words.specs.Faults.{fault_number, fault_sent, fault_text, fault_line};
 
 use logs::log::Full;
 use seats::seat::Seat;
+use std::error::Error;
 use std::fmt;
 
 // Why a call refused, or did other than was asked. `S` is the state of the party that was called.
@@ -36,7 +37,7 @@ pub enum Fault<S> {
 }
 
 impl<S: Copy> Fault<S> {
-    // Its number.
+    // Its number, the published one that programs print: two faults share 10.
     pub fn number(self) -> u8
         ensures { result ≡ fault_number self }
     {
@@ -50,8 +51,7 @@ impl<S: Copy> Fault<S> {
             Fault::UnknownTransaction => 7,
             Fault::InvalidPeer { .. } => 8,
             Fault::Inconsistent => 9,
-            Fault::LogFull { .. } => 10,
-            Fault::NoPlace { .. } => 10,
+            Fault::LogFull { .. } | Fault::NoPlace { .. } => 10,
             Fault::Malformed { .. } => 11,
         }
     }
@@ -61,9 +61,9 @@ impl<S: Copy> Fault<S> {
         ensures { result ≡ fault_sent self }
     {
         match self {
-            Fault::InvalidPeer { sent, .. } => sent,
-            Fault::LogFull { sent, .. } => sent,
-            Fault::NoPlace { sent, .. } => sent,
+            Fault::InvalidPeer { sent, .. }
+            | Fault::LogFull { sent, .. }
+            | Fault::NoPlace { sent, .. } => sent,
             _ => 0,
         }
     }
@@ -91,6 +91,8 @@ impl<S: Copy> Fault<S> {
 
 // Its number, what it says, and its values.
 impl<S: Copy + fmt::Display> fmt::Display for Fault<S> {
+    ghost output = { fault_line S.output };
+
     fn fmt<W: fmt::Write>(&self, f: &mut fmt::Formatter<W>) -> fmt::Result {
         let number = self.number();
         let text = self.text();
@@ -100,13 +102,12 @@ impl<S: Copy + fmt::Display> fmt::Display for Fault<S> {
                 let seat = seat.number();
                 write!(f, " (seat {seat}, in {state})")
             }
-            Fault::LogFull { full, .. } => {
-                let capacity = full.capacity;
-                write!(f, " (capacity {capacity})")
-            }
+            Fault::LogFull { full, .. } => write!(f, " (capacity {})", full.capacity),
             Fault::NoPlace { spare, .. } => write!(f, " ({spare} left)"),
             Fault::Malformed { record } => write!(f, " (record {record})"),
             _ => Ok(()),
         }
     }
 }
+
+impl<S: Copy + fmt::Debug + fmt::Display> Error for Fault<S> {}
