@@ -1,5 +1,5 @@
 -- What a push and a pop leave waiting.
-use Rattle.std.proofs.Common.{◌≡◌, ℕ, Bool, true, false, cond, ltb, ◌⊎◌, List, [], ◌∷◌, ◌++◌, length, IfSome, Some, None, Option, sym, refl, ap, ◌∙◌, inl, inr, arith}
+use Rattle.std.proofs.Common.{◌≡◌, ℕ, Bool, true, false, cond, ltb, ◌⊎◌, List, [], ◌∷◌, ◌++◌, length, IfSome, Some, None, Option, sym, refl, ap, ◌∙◌, subst, inl, inr, arith}
 use Rattle.std.specs.Option.{option_map}
 use Rattle.words.specs.declared.row.Row.{Row}
 use Rattle.words.specs.Notes.{Note}
@@ -8,6 +8,7 @@ use Rattle.words.specs.Notes.{note_of, note_in, row_of}
 use Rattle.lines.specs.Ring.{first, rest, pushed}
 use Rattle.lines.specs.Lines.{In, Within, there, notes_in}
 use Rattle.lines.specs.Queues.{offered}
+use Rattle.words.proofs.NoteFacts.{note-back}
 use Rattle.lines.proofs.MemberFacts.{within-eq, within-left, notes_in-append}
 
 module _ {A : Type 0} where
@@ -49,3 +50,10 @@ waited-in (Some n) xs h = h (note_of n) refl
 pub waited-offered : (o : Option Notification) (xs : List Row) → option_map note_of o ≡ offered (first xs) → IfSome o (λ n. In (note_of n) (notes_in xs))
 waited-offered o [] e = waited-in o [] (λ n q. let z : Some n ≡ None = q ∙ e in let y : ◌≡◌ {A = ℕ} 0 1 = cc in absurd (omega arith))
 waited-offered o (x ∷ xs) e = waited-in o (notes_in (x ∷ xs)) (λ n q. in-there-here n (note_in x) (notes_in xs) (q ∙ e))
+
+-- the same of a queue after a post and a take
+pub posted-within : (k : ℕ) (xs rs : List Row) (n : Notification) (w : Row) → rs ≡ pushed k xs w → w ≡ row_of (note_of n) → Within (notes_in rs) (notes_in xs ++ note_of n ∷ [])
+posted-within k xs rs n w e f = subst (λ (ws : List Row). Within (notes_in ws) (notes_in xs ++ note_of n ∷ [])) (sym (e ∙ ap (pushed k xs) f)) (within-posted k xs (note_of n) (note-back n))
+
+pub taken-within : (xs rs : List Row) → rs ≡ rest xs → Within (notes_in rs) (notes_in xs)
+taken-within xs rs e = subst (λ (ws : List Row). Within (notes_in ws) (notes_in xs)) (sym e) (within-rest xs)

@@ -1,6 +1,7 @@
-ghost use Rattle.std.specs.Prelude.{◌≡◌, ℕ, ◌+◌, ◌%◌, ◌^◌, List, [], ◌∷◌, ◌++◌, length, IfSome};
+ghost use Rattle.std.specs.Prelude.{◌≡◌, ℕ, ◌+◌, ◌%◌, ◌^◌, Bool, true, false, List, [], ◌∷◌, ◌++◌, length, IfSome};
 ghost use Rattle.lines.specs.Lines.{In, Within, Chain, notes_in, wound};
 ghost use Rattle.words.specs.Notes.{Note, note_of};
+ghost use Rattle.words.specs.declared.notification.Notification.{Notification};
 
 use words::notification::Notification;
 use words::row::Row;
@@ -34,10 +35,30 @@ pub trait Line {
         ensures counted { posts self.new ≡ wound (length (notes_in rows.now)) (posts self.old) }
         ensures order { Chain step self.old (notes_in rows.now) self.new }
     {
-        for i in 0..rows.len() {
-            if let Some(notification) = rows[i].notification() {
+        for row in rows {
+            if let Ok(notification) = Notification::try_from(*row) {
                 self.post(notification);
             }
         }
     }
+}
+
+// A line that tells how many were posted, and whether the next would be lost.
+pub trait Counted: Line {
+    // Whether the next post is dropped.
+    ghost full: { Self → Bool };
+
+    // How many were posted, wrapping.
+    fn posts(&self) -> u64
+        ensures { result ≡ Self.posts self.now };
+
+    // Whether the next post would be dropped.
+    fn is_full(&self) -> bool
+        ensures { result ≡ full self.now };
+
+    // What is posted on a full line is dropped, and what waits stays.
+    ghost drops: { (s t : Self) (n : Note) → full s ≡ true → Self.step s n t → Self.waiting t ≡ Self.waiting s };
+
+    // What is posted on any other line waits.
+    ghost keeps: { (s t : Self) (n : Notification) → full s ≡ false → Self.step s (note_of n) t → In (note_of n) (Self.waiting t) };
 }

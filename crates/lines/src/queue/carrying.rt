@@ -23,7 +23,7 @@ impl<'a> Line for Queue<'a, Row> {
         ensures counted { posted self.new ≡ (posted self.old + 1) % 2 ^ 64 }
         ensures stepped { QueueStep self.old (note_of notification) self.new }
     {
-        self.push(Row::of(notification));
+        self.push(Row::from(notification));
     }
 
     // Beyond what every line promises: it is the oldest.
@@ -35,9 +35,6 @@ impl<'a> Line for Queue<'a, Row> {
         ensures held { held self.new ≡ rest (held self.old) }
         ensures room { room self.new ≡ room self.old }
     {
-        match self.pop() {
-            Some(row) => row.notification(),
-            None => None,
-        }
+        Notification::try_from(self.pop()?).ok()
     }
 }
