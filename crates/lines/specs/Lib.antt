@@ -1,3 +1,4 @@
+pub mod Kept
 pub mod Lines
 pub mod Queues
 pub mod Ring

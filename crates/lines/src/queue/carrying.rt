@@ -1,12 +1,13 @@
-ghost use Rattle.std.specs.Prelude.{◌≡◌, ◌+◌, ◌%◌, ◌^◌, [], ◌∷◌, ◌++◌, IfSome};
+ghost use Rattle.std.specs.Prelude.{◌≡◌, ◌+◌, ◌%◌, ◌^◌, [], ◌∷◌, ◌++◌, length, nat_le, IfSome};
 ghost use Rattle.std.specs.Option.{option_map};
+ghost use Rattle.lines.specs.Kept.{full-drops, free-keeps};
 ghost use Rattle.lines.specs.Lines.{In, Within, notes_in};
 ghost use Rattle.words.specs.Notes.{note_of, row_of};
 ghost use Rattle.lines.specs.Queues.{held, posted, room, QueueStep, offered};
 ghost use Rattle.lines.specs.Ring.{first, rest, pushed};
 
 use super::Queue;
-use crate::line::Line;
+use crate::line::{Counted, Line};
 use words::notification::Notification;
 use words::row::Row;
 
@@ -36,5 +37,21 @@ impl<'a> Line for Queue<'a, Row> {
         ensures room { room self.new ≡ room self.old }
     {
         Notification::try_from(self.pop()?).ok()
+    }
+}
+
+impl<'a> Counted for Queue<'a, Row> {
+    ghost full = { λ q. nat_le (room q) (length (held q)) };
+
+    ghost drops = { λ s t n full step. full-drops (room s) (held s) (held t) (row_of n) full step.held };
+
+    ghost keeps = { λ s t n free step. free-keeps (room s) (held s) (held t) n free step.held };
+
+    fn posts(&self) -> u64 {
+        Queue::posts(self)
+    }
+
+    fn is_full(&self) -> bool {
+        self.room() <= self.len()
     }
 }

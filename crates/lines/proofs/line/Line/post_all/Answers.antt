@@ -1,4 +1,4 @@
-use Rattle.std.proofs.Common.{◌≡◌, ◌+◌, take, sym, subst}
+use Rattle.std.proofs.Common.{◌+◌, take, sym, subst}
 use Rattle.lines.specs.Lines.{notes_in}
 use Rattle.lines.proofs.MemberFacts.{Run, run_none, run_more, run-skip}
 use Rattle.lines.proofs.line.Line.post_all.Goals as goal
