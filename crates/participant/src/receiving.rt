@@ -59,7 +59,7 @@ impl Participant {
         if notification.transaction != self.transaction {
             return Err(Fault::OtherTransaction);
         }
-        if notification.seat.number() != self.seat.number() {
+        if notification.seat != self.seat {
             return Err(Fault::Misdirected);
         }
         Ok(())

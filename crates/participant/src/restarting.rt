@@ -2,16 +2,17 @@ ghost use Rattle.std.specs.Prelude.{◌≡◌, ◌++◌, Ok};
 ghost use Rattle.agreement.specs.Logs.{log_of};
 ghost use Rattle.agreement.specs.ParticipantRules.{found};
 ghost use Rattle.participant.specs.Calls.{Leaves, woken};
-ghost use Rattle.participant.specs.Signs.{sign_of, sign_in};
+ghost use Rattle.participant.specs.Signs.{sign_of};
 ghost use Rattle.records.specs.Recs.{model_of};
-ghost use Rattle.std.specs.List.{slice_get};
 
 use crate::{Participant, State};
+use logs::listing::Records;
 use logs::log::Log;
 use records::record::{Entry, Record};
 use seats::set::SeatSet;
 
-// What a record says of a participant.
+// What a record of its own says of a participant.
+#[derive(Clone, Copy)]
 enum Sign {
     // It voted for the step.
     Vote,
@@ -19,8 +20,6 @@ enum Sign {
     Kept,
     // It undid the step.
     Undone,
-    // Nothing: the record is another party's.
-    Nothing,
 }
 
 impl Participant {
@@ -30,11 +29,7 @@ impl Participant {
     {
         log.restart(n);
         let state = self.find(log);
-        Participant {
-            transaction: self.transaction,
-            seat: self.seat,
-            state,
-        }
+        Participant { state, ..self }
     }
 
     // The state that the records of a log give: by the first Kept or Undone, else by a Vote.
@@ -42,12 +37,12 @@ impl Participant {
         ensures { result ≡ found self.now.transaction self.now.seat.value (L.Log.safe log.now ++ L.Log.loose log.now) }
     {
         let mut voted = false;
-        for i in 0..log.count() {
-            match self.sign_at(log, i) {
-                Sign::Kept => return State::Kept,
-                Sign::Undone => return State::Undone,
-                Sign::Vote => voted = true,
-                Sign::Nothing => {}
+        for record in Records::over(log) {
+            match self.sign(record) {
+                Some(Sign::Kept) => return State::Kept,
+                Some(Sign::Undone) => return State::Undone,
+                Some(Sign::Vote) => voted = true,
+                None => {}
             }
         }
         if voted {
@@ -57,29 +52,19 @@ impl Participant {
         }
     }
 
-    // What record i of a log says of it.
-    fn sign_at<L: Log>(&self, log: &L, i: usize) -> Sign
-        ensures { result ≡ sign_in self.now.transaction self.now.seat.value (slice_get (L.Log.safe log.now ++ L.Log.loose log.now) i) }
-    {
-        match log.read(i) {
-            Some(record) => self.sign(record),
-            None => Sign::Nothing,
-        }
-    }
-
-    // What a record says of it.
-    fn sign(&self, record: Record) -> Sign
+    // What a record says of it, or none where the record is another party's.
+    fn sign(&self, record: Record) -> Option<Sign>
         ensures { result ≡ sign_of self.now.transaction self.now.seat.value (model_of «record») }
     {
-        let own = SeatSet::only(self.seat).bits();
-        if record.transaction != self.transaction || record.entry.seats().bits() != own {
-            return Sign::Nothing;
+        let own = SeatSet::only(self.seat);
+        if record.transaction != self.transaction || record.entry.seats() != own {
+            return None;
         }
         match record.entry {
-            Entry::Decision(_) => Sign::Nothing,
-            Entry::Vote(_) => Sign::Vote,
-            Entry::Kept(_) => Sign::Kept,
-            Entry::Undone(_) => Sign::Undone,
+            Entry::Decision(_) => None,
+            Entry::Vote(_) => Some(Sign::Vote),
+            Entry::Kept(_) => Some(Sign::Kept),
+            Entry::Undone(_) => Some(Sign::Undone),
         }
     }
 }

@@ -40,7 +40,7 @@ impl Participant {
         ensures rows { outbox.new ≡ laid (map row_of (note self.old.transaction self.old.seat.value kind ∷ [])) outbox.old }
         ensures answer { result ≡ Ok 1 }
     {
-        outbox[0] = Row::of(Notification {
+        outbox[0] = Row::from(Notification {
             transaction: self.transaction,
             seat: self.seat,
             kind,
