@@ -2,7 +2,7 @@ ghost use Rattle.std.specs.Prelude.{◌≤◌, length};
 ghost use Rattle.agreement.specs.Logs.{LogState, log_of};
 ghost use Rattle.participant.specs.Calls.{Obeys, voted, voted_for, settled, expired, resent};
 
-use crate::{Ballot, OUTBOX_PLACES, Participant, State};
+use crate::{Ballot, Participant, State, check_room};
 use logs::log::Log;
 use records::record::Entry;
 use words::fault::Fault;
@@ -22,9 +22,7 @@ impl Participant {
     ) -> Result<usize, Fault<State>>
         ensures { Obeys (voted self.old (length outbox.old) ballot (log_of L.Log log.old)) self.old self.new (log_of L.Log log.new) outbox.old outbox.new result }
     {
-        if outbox.len() < OUTBOX_PLACES {
-            return Err(Fault::ShortOutbox);
-        }
+        check_room(outbox.len())?;
         if self.state != State::Voting {
             return Err(Fault::InvalidState);
         }
@@ -52,9 +50,7 @@ impl Participant {
     pub fn settle<L: Log>(&mut self, log: &mut L, outbox: &mut [Row]) -> Result<usize, Fault<State>>
         ensures { Obeys (settled self.old (length outbox.old) (log_of L.Log log.old)) self.old self.new (log_of L.Log log.new) outbox.old outbox.new result }
     {
-        if outbox.len() < OUTBOX_PLACES {
-            return Err(Fault::ShortOutbox);
-        }
+        check_room(outbox.len())?;
         let (kind, next) = match self.state {
             State::Noted => (Kind::Prepared, State::InDoubt),
             State::Keeping => (Kind::Committed, State::Kept),
@@ -69,9 +65,7 @@ impl Participant {
     pub fn expire(&mut self, outbox: &mut [Row]) -> Result<usize, Fault<State>>
         ensures { (l : LogState) → Obeys (expired self.old (length outbox.old) l) self.old self.new l outbox.old outbox.new result }
     {
-        if outbox.len() < OUTBOX_PLACES {
-            return Err(Fault::ShortOutbox);
-        }
+        check_room(outbox.len())?;
         match self.state {
             State::Working | State::Voting => self.send(Kind::Aborted, State::Undone, outbox),
             _ => Ok(0),
@@ -82,9 +76,7 @@ impl Participant {
     pub fn resend(&mut self, outbox: &mut [Row]) -> Result<usize, Fault<State>>
         ensures { (l : LogState) → Obeys (resent self.old (length outbox.old) l) self.old self.new l outbox.old outbox.new result }
     {
-        if outbox.len() < OUTBOX_PLACES {
-            return Err(Fault::ShortOutbox);
-        }
+        check_room(outbox.len())?;
         match self.state {
             State::InDoubt => self.send(Kind::Prepared, State::InDoubt, outbox),
             _ => Ok(0),

@@ -1,11 +1,12 @@
 // The durable participant: a store's side of a transaction.
 #![tactic(auto)]
 
-ghost use Rattle.std.specs.Prelude.{◌≡◌};
+ghost use Rattle.std.specs.Prelude.{◌≡◌, ◌<◌, ◌≤◌, MatchResult};
 ghost use Rattle.agreement.specs.declared.participant.State.TheVariants.{Working};
 
 pub use agreement::participant::{Ballot, State};
 use seats::seat::Seat;
+use words::fault::Fault;
 
 // How many places the outbox of a call has at least.
 pub const OUTBOX_PLACES: usize = 1;
@@ -51,6 +52,17 @@ impl Participant {
         ensures { result ≡ self.now.state }
     {
         self.state
+    }
+}
+
+// Refuses an outbox of fewer places than a call may need.
+fn check_room(places: usize) -> Result<(), Fault<State>>
+    ensures { MatchResult result (λ _. 1 ≤ places) (λ e. (places < 1) × (e ≡ Fault.ShortOutbox)) }
+{
+    if places < OUTBOX_PLACES {
+        Err(Fault::ShortOutbox)
+    } else {
+        Ok(())
     }
 }
 

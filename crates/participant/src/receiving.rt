@@ -3,7 +3,7 @@ ghost use Rattle.agreement.specs.Logs.{log_of};
 ghost use Rattle.participant.specs.Calls.{Obeys, admits, received};
 ghost use Rattle.words.specs.Notes.{note_of};
 
-use crate::{OUTBOX_PLACES, Participant, State};
+use crate::{Participant, State, check_room};
 use agreement::participant::State::{
     InDoubt, Keeping, Kept, Noted, Undoing, Undone, Unknown, Viewed, Voting, Working,
 };
@@ -53,9 +53,7 @@ impl Participant {
     fn admit(&self, notification: Notification, places: usize) -> Result<(), Fault<State>>
         ensures { admits self.now places (note_of notification) result }
     {
-        if places < OUTBOX_PLACES {
-            return Err(Fault::ShortOutbox);
-        }
+        check_room(places)?;
         if notification.transaction != self.transaction {
             return Err(Fault::OtherTransaction);
         }
