@@ -5,73 +5,79 @@ ghost use Rattle.wording.specs.Calls.{asked_one, asked_two, asked_three, asked_b
 pub const USAGE: &str = "lezkouar: step transactions for engineering desktops
 
 usage:
-  lezkouar                     show what a journal holds after a power cut
-  lezkouar journal FILE COUNT  print the first COUNT records of a journal file
-  lezkouar line queue PLACES   post and take on a queue of PLACES notifications
-  lezkouar line board          post and take on a board
-  lezkouar --help              print this text";
+  lezkouar                            show what a journal holds after a power cut
+  lezkouar journal FILE COUNT         print the first COUNT records of a journal file
+  lezkouar line queue PLACES          post and take on a queue of PLACES notifications
+  lezkouar line board                 post and take on a board
+  lezkouar participant tray           play a store's side of a step over a tray
+  lezkouar participant journal BYTES  the same over a journal of BYTES bytes
+  lezkouar --help                     print this text
 
-// What a call of the program asks for.
+line and participant read from standard input, a step a line. For line: post T SEAT KIND
+or take. For participant: receive KIND, receive T SEAT KIND, vote BALLOT, settle, expire,
+resend, cut N, outbox N, fill N or log; # begins a comment.";
+
+// What a call of the program asks for; the words as they were given.
 #[derive(Clone, Copy)]
 pub enum Command<'a> {
     // Show what a journal holds after a power cut.
     Demonstrate,
     // Say how the program is called.
     Help,
-    // Print so many records of a journal file; both words as they were given.
-    Journal(&'a str, &'a str),
-    // Play on a queue of so many places; the word as it was given.
-    Queue(&'a str),
+    // Print so many records of a journal file.
+    Journal { file: &'a str, count: &'a str },
+    // Play on a queue of so many places.
+    Queue { places: &'a str },
     // Play on a board.
     Board,
-    // The words are no call of the program.
-    Unknown,
+    // Play a participant over a tray.
+    ParticipantOnTray,
+    // Play a participant over a journal of so many bytes.
+    ParticipantOnJournal { bytes: &'a str },
 }
 
-// The command that the words of a call, without the program's name, ask for.
-pub fn parse(words: &[String]) -> Command<'_>
+// The command that the words of a call, without the program's name, ask for, or none where they are no call.
+pub fn parse(words: &[String]) -> Option<Command<'_>>
     ensures { asked result ≡ asked_by (map string_bytes words.now) }
 {
     match words {
-        [] => Command::Demonstrate,
+        [] => Some(Command::Demonstrate),
         [word] => one_word(word.as_str()),
         [first, second] => two_words(first.as_str(), second.as_str()),
         [first, second, third] => three_words(first.as_str(), second.as_str(), third.as_str()),
-        _ => Command::Unknown,
+        _ => None,
     }
 }
 
 // What one word asks for.
-fn one_word(word: &str) -> Command<'_>
+fn one_word(word: &str) -> Option<Command<'_>>
     ensures { asked result ≡ asked_one word.now }
 {
-    if word == "--help" {
-        Command::Help
-    } else {
-        Command::Unknown
+    match word {
+        "--help" => Some(Command::Help),
+        _ => None,
     }
 }
 
 // What two words ask for.
-fn two_words<'a>(first: &'a str, second: &'a str) -> Command<'a>
+fn two_words<'a>(first: &'a str, second: &'a str) -> Option<Command<'a>>
     ensures { asked result ≡ asked_two first.now second.now }
 {
-    if first == "line" && second == "board" {
-        Command::Board
-    } else {
-        Command::Unknown
+    match (first, second) {
+        ("line", "board") => Some(Command::Board),
+        ("participant", "tray") => Some(Command::ParticipantOnTray),
+        _ => None,
     }
 }
 
 // What three words ask for.
-fn three_words<'a>(first: &'a str, second: &'a str, third: &'a str) -> Command<'a>
+fn three_words<'a>(first: &'a str, second: &'a str, third: &'a str) -> Option<Command<'a>>
     ensures { asked result ≡ asked_three first.now second.now third.now }
 {
-    if first == "journal" {
-        Command::Journal(second, third)
-    } else if first == "line" && second == "queue" {
-        Command::Queue(third)
-    } else {
-        Command::Unknown
+    match (first, second) {
+        ("journal", file) => Some(Command::Journal { file, count: third }),
+        ("line", "queue") => Some(Command::Queue { places: third }),
+        ("participant", "journal") => Some(Command::ParticipantOnJournal { bytes: third }),
+        _ => None,
     }
 }

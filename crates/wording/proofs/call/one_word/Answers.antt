@@ -1,6 +1,0 @@
-use Rattle.std.proofs.Common.{rules}
-use Rattle.std.proofs.lemmas.Slice.Eq.{bytes_eq-Decides}
-use Rattle.wording.proofs.call.one_word.Goals as goal
-
-pub returns-else-eq : goal.returns-else-eq
-returns-else-eq c = search (rules, bytes_eq-Decides)
