@@ -1,11 +1,14 @@
 -- The slots of a journal's buffer, and a record written to the next one.
-use Rattle.std.proofs.Common.{◌≡◌, ℕ, zero, suc, ◌+◌, ◌-◌, ◌*◌, ◌/◌, ◌<◌, ◌≤◌, true, List, [], ◌∷◌, ◌++◌, map, length, get_or, take, drop, is_some, Some, None, Option, sym, refl, ap, ◌∙◌, ap₂, arith, below_more}
+use Rattle.std.proofs.Common.{◌≡◌, ℕ, zero, suc, ◌+◌, ◌-◌, ◌*◌, ◌/◌, ◌<◌, ◌≤◌, Bool, true, false, not, List, [], ◌∷◌, ◌++◌, map, length, get_or, take, drop, is_some, Some, None, Option, sym, refl, ap, ◌∙◌, ap₂, ⊎_elim, arith, below_more}
 use borrow.Rule.Slice.PartMut.{put_mid}
+use Rattle.std.proofs.lemmas.Bool.{true≢false, cases_lt}
 use Rattle.std.proofs.lemmas.List.FromFn.{length-map-range_with_len, map-range_with_len_more, get_or-map-range_with_len, take-map-range_with_len}
-use Rattle.std.proofs.lemmas.List.{drop-take, length-append, length-take, length-drop}
+use Rattle.std.proofs.lemmas.List.{drop-drop, drop-take, length-append, length-take, length-drop}
 use Rattle.std.proofs.lemmas.Slice.{between-put_mid, take-put_mid_below}
+use Rattle.std.specs.Bool.{Decides}
 use Rattle.std.specs.List.{range_with_len}
-use Rattle.seats.proofs.ExactFacts.{exactly-has}
+use Rattle.std.specs.Simd.{first_chunks}
+use Rattle.seats.proofs.ExactFacts.{exactly-has, exactly-never}
 use Rattle.seats.specs.Exactly.{Exactly}
 use Rattle.records.proofs.RecordFacts.{rec_of_lem, length-bytes}
 use Rattle.records.specs.Bytes.{bytes_of, rec_of}
@@ -19,9 +22,12 @@ length-recs bs = length-map-range_with_len (rec_at bs) 0 (length bs / 22)
 pub recs-at : (bs : List ℕ) (i : ℕ) (d : Rec) → i < length bs / 22 → get_or (recs_in bs) i d ≡ rec_at bs i
 recs-at bs i d h = get_or-map-range_with_len (rec_at bs) 0 (length bs / 22) i i d h (omega arith)
 
--- the part of a buffer that is lent as record i
-pub slot_lent : (bs lent : List ℕ) (i : ℕ) → lent ≡ bs → take (22 * i + 22 - 22 * i) (drop (22 * i) lent) ≡ slot bs i
-slot_lent bs lent i e = let k : 22 * i + 22 - 22 * i ≡ 22 = omega arith in ap₂ (λ (n : ℕ) (x : List ℕ). take n (drop (22 * i) x)) k e
+-- the chunks of a buffer are its slots
+pub chunk_at : (bs : List ℕ) (k i : ℕ) (d : List ℕ) → i < k → get_or (first_chunks 22 k bs) i d ≡ slot bs i
+chunk_at bs zero i d h = let no : ⊥ = omega arith in absurd no
+chunk_at bs (suc k) zero d h = refl
+chunk_at bs (suc k) (suc i) d h =
+    let e : 22 + 22 * i ≡ 22 * suc i = omega arith in chunk_at (drop 22 bs) k i d (omega arith) ∙ ap (take 22) (drop-drop (22 * i) 22 bs ∙ ap (λ (n : ℕ). drop n bs) e)
 
 -- a slot that leaves the buffer is no record's
 pub short : (bs : List ℕ) (i : ℕ) → length bs / 22 ≤ i → MalformedAt bs i
@@ -34,10 +40,18 @@ short bs i h r e =
 pub sound_more : (bs : List ℕ) (n : ℕ) (r : Record) → BytesSound bs n → slot bs n ≡ bytes_of r → BytesSound bs (n + 1)
 sound_more bs n r h e = below_more (λ i. MalformedAt bs i → ⊥) n h (λ malformed. malformed r e)
 
--- a record that is read is not malformed
-pub sound-read : (bs : List ℕ) (n : ℕ) (o : Option Record) → BytesSound bs n → Exactly (λ (r : Record). slot bs n ≡ bytes_of r) o → is_some o ≡ true → BytesSound bs (n + 1)
-sound-read bs n (Some r) h exact some = sound_more bs n r h (exactly-has (λ (x : Record). slot bs n ≡ bytes_of x) r exact)
-sound-read bs n None h exact some = let z : ◌≡◌ {A = ℕ} 0 1 = cc in let no : ⊥ = omega arith in absurd no
+-- a record is malformed exactly where none is read
+pub none-malformed : (bs : List ℕ) (i : ℕ) (o : Option Record) (none : Bool) → Exactly (λ (r : Record). slot bs i ≡ bytes_of r) o → is_some o ≡ not none → Decides none (MalformedAt bs i)
+none-malformed bs i (Some r) true exact e = absurd (true≢false e)
+none-malformed bs i (Some r) false exact e = (λ none. absurd (true≢false (sym none)), λ malformed. absurd (malformed r (exactly-has (λ (x : Record). slot bs i ≡ bytes_of x) r exact)))
+none-malformed bs i None true exact e = (λ _. exactly-never (λ (x : Record). slot bs i ≡ bytes_of x) exact, λ _. refl)
+none-malformed bs i None false exact e = absurd (true≢false (sym e))
+
+-- where none of the first n records is malformed, all of them lie in the buffer
+pub whole : (bs : List ℕ) (n : ℕ) → BytesSound bs n → 22 * n ≤ length bs
+whole bs zero h = omega arith
+whole bs (suc n) h =
+    ⊎_elim (λ (l : n < length bs / 22). let s : 22 * suc n ≤ length bs = omega arith in s) (λ (l : length bs / 22 ≤ n). absurd (h n (omega arith) (short bs n l))) (cases_lt n (length bs / 22))
 
 -- the same slots say the same
 same-recs : (bs cs : List ℕ) (a n : ℕ) → ((i : ℕ) → i < a + n → slot bs i ≡ slot cs i) → map (rec_at bs) (range_with_len a n) ≡ map (rec_at cs) (range_with_len a n)

@@ -1,3 +1,4 @@
 pub mod Bounds
 pub mod Journals
 pub mod Slots
+pub mod Texts

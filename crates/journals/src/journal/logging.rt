@@ -1,4 +1,4 @@
-ghost use Rattle.std.specs.Prelude.{◌≡◌, ◌+◌, ◌*◌, ◌/◌, ◌≤◌, min, [], ◌++◌, length, take, if◌then◌else◌, vec_len};
+ghost use Rattle.std.specs.Prelude.{◌≡◌, ◌+◌, ◌*◌, ◌/◌, min, [], ◌++◌, length, take, if◌then◌else◌};
 ghost use borrow.Rule.Slice.PartMut.{put_mid};
 ghost use Rattle.records.specs.Bytes.{bytes_of};
 ghost use Rattle.records.specs.Recs.{model_of};
@@ -9,8 +9,9 @@ ghost use Rattle.logs.specs.Bounds.{smaller};
 ghost use Rattle.journals.specs.Journals.{bytes_in, safe_in, loose_in, room_in};
 
 use super::Journal;
+use super::slots::record_at;
 use logs::log::{Full, Log};
-use records::codec::{RECORD_BYTES, decode, encode};
+use records::codec::{RECORD_BYTES, encode};
 use records::record::Record;
 
 impl Log for Journal {
@@ -39,7 +40,8 @@ impl Log for Journal {
         if self.used >= capacity {
             return Err(Full { capacity });
         }
-        put(&mut self.bytes, RECORD_BYTES * self.used, encode(&record));
+        let at = RECORD_BYTES * self.used;
+        self.bytes[at..at + RECORD_BYTES].copy_from_slice(&encode(&record));
         self.used += 1;
         Ok(())
     }
@@ -58,8 +60,7 @@ impl Log for Journal {
         if i >= self.used {
             return None;
         }
-        let at = RECORD_BYTES * i;
-        decode(&self.bytes[at..at + RECORD_BYTES])
+        record_at(&self.bytes, i)
     }
 
     fn count(&self) -> usize {
@@ -81,13 +82,4 @@ impl Log for Journal {
         self.secured += survivors;
         self.used = self.secured;
     }
-}
-
-// Writes a record's bytes from a place on.
-fn put(bytes: &mut Vec<u8>, at: usize, record: [u8; RECORD_BYTES])
-    requires { at + record_length ≤ vec_len bytes.old }
-    ensures items { bytes.new.items ≡ put_mid at record_length bytes.old.items «record» }
-    ensures len { vec_len bytes.new ≡ vec_len bytes.old }
-{
-    bytes[at..at + RECORD_BYTES].copy_from_slice(&record);
 }

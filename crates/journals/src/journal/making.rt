@@ -3,8 +3,8 @@ ghost use Rattle.records.specs.Sizes.{record_length};
 ghost use Rattle.journals.specs.Journals.{bytes_in, safe_in, loose_in, room_in, OpenAnswer};
 ghost use Rattle.journals.specs.Slots.{MalformedAt, BytesSound};
 
+use super::slots::is_malformed;
 use super::{Journal, Malformed};
-use records::codec::{RECORD_BYTES, decode};
 
 impl Journal {
     // A journal without records, over a buffer whose bytes stay as they are until a record is added.
@@ -39,19 +39,14 @@ impl Journal {
     pub fn bytes(&self) -> &[u8]
         ensures { result.now ≡ bytes_in self.now }
     {
-        self.bytes.as_slice()
+        &self.bytes
     }
 
     // Its bytes, given back.
     pub fn into_bytes(self) -> Vec<u8>
         ensures { result.items ≡ bytes_in self }
     {
-        let Journal {
-            bytes,
-            secured: _,
-            used: _,
-        } = self;
-        bytes
+        self.bytes
     }
 }
 
@@ -59,15 +54,5 @@ impl Journal {
 fn malformed_in(bytes: &[u8], count: usize) -> Option<usize>
     ensures { MatchOption result ((record_length * count ≤ length bytes.now) × BytesSound bytes.now count) (λ i. (i < count) × MalformedAt bytes.now i) }
 {
-    let whole = bytes.len() / RECORD_BYTES;
-    for i in 0..count {
-        if i >= whole {
-            return Some(i);
-        }
-        let at = RECORD_BYTES * i;
-        if decode(&bytes[at..at + RECORD_BYTES]).is_none() {
-            return Some(i);
-        }
-    }
-    None
+    (0..count).find(|i| is_malformed(bytes, *i))
 }

@@ -1,27 +1,22 @@
-use Rattle.std.proofs.Common.{◌≡◌, ℕ, List, refl, subst, arith}
-use Rattle.records.specs.Bytes.{bytes_of}
-use Rattle.seats.specs.Exactly.{Exactly}
-use Rattle.records.specs.declared.record.Record.{Record}
-use Rattle.journals.specs.Slots.{slot, BytesSound}
-use Rattle.journals.proofs.SlotFacts.{short, sound-read, slot_lent}
+use Rattle.std.proofs.Common.{ℕ, ◌*◌, ◌<◌, ◌≤◌, List, length, Some, None, Option, arith, rules}
+use borrow.Author.Tests.{tests}
+use Rattle.std.proofs.lemmas.Bool.Decides.{not_from_Decides}
+use Rattle.std.proofs.lemmas.Iterator.{first_from_Range}
+use Rattle.std.specs.Option.{MatchOption}
+use Rattle.journals.specs.Slots.{MalformedAt, BytesSound}
+use Rattle.journals.proofs.SlotFacts.{whole}
 use Rattle.journals.proofs.journal.making.malformed_in.Goals as goal
 
-pub returns-then-i-whole : goal.returns-then-i-whole
-returns-then-i-whole c = (c.loop-i-test.true, short c.args.bytes.now c.loop-i.i c.if-i-whole.true)
-
-pub loop-i-preserved : goal.loop-i-preserved
-loop-i-preserved c =
-    let bs = c.args.bytes.now in
-    let i = c.loop-i.i in
-    let o = c.decode.result in
-    let inv = c.loop-i.invariant in
-    let exact : Exactly (λ (r : Record). slot bs i ≡ bytes_of r) o =
-    subst (λ (x : List ℕ). Exactly (λ (r : Record). x ≡ bytes_of r) o) (slot_lent bs bs i refl) c.decode.ensures in
-    (omega arith, sound-read bs i o inv.1 exact c.if-is_none.ensures)
+-- what `find` says of the numbers below n
+named : (bs : List ℕ) (n : ℕ) (o : Option ℕ)
+    → MatchOption o ((k : ℕ) → 0 ≤ k → k < n → MalformedAt bs k → ⊥) (λ i. (0 ≤ i) × (i < n) × MalformedAt bs i × ((k : ℕ) → 0 ≤ k → k < i → MalformedAt bs k → ⊥))
+    → MatchOption o ((22 * n ≤ length bs) × BytesSound bs n) (λ i. (i < n) × MalformedAt bs i)
+named bs n (Some i) h = (h.1, h.2)
+named bs n None h = let s : BytesSound bs n = λ i l. h i (omega arith) l in (whole bs n s, s)
 
 pub returns : goal.returns
 returns c =
-    let e : c.loop-i.i ≡ c.args.count = omega arith in
-    let i = c.loop-i.invariant in
-    let h = i.0 in
-    (omega arith, subst (BytesSound c.args.bytes.now) e i.1)
+    let bs = c.args.bytes.now in
+    named bs c.args.count c.find.result
+    (first_from_Range _ _ _ _ (MalformedAt bs) (λ i. MalformedAt bs i → ⊥) c.find.ensures.ran
+    (λ x q k. search (rules, tests)) (λ x q k. (search (rules, tests), search (rules, tests, not_from_Decides))))

@@ -6,7 +6,7 @@ use Rattle.records.specs.declared.record.Record.{Record}
 use Rattle.journals.specs.Journals.{bytes_in}
 use Rattle.journals.specs.Slots.{slot, rec_at, recs_in}
 use Rattle.logs.proofs.LogFacts.{reads}
-use Rattle.journals.proofs.SlotFacts.{length-recs, recs-at, slot_lent}
+use Rattle.journals.proofs.SlotFacts.{length-recs, recs-at}
 use Rattle.logs.proofs.TableFacts.{read-in, read_past}
 use Rattle.journals.proofs.journal.logging.JournalLog.read.Goals as goal
 
@@ -20,8 +20,8 @@ returns c =
     let i = c.args.i in
     let v = j.bytes.ok.0 in
     let n = length-recs bs in
-    let o = c.decode.result in
+    let o = c.record_at.result in
     let exact : Exactly (λ (r : Record). slot bs i ≡ bytes_of r) o =
-    subst (λ (x : List ℕ). Exactly (λ (r : Record). x ≡ bytes_of r) o) (slot_lent bs c.deref.result.now i c.deref.ensures.value) c.decode.ensures in
+    subst (λ (x : List ℕ). Exactly (λ (r : Record). slot x i ≡ bytes_of r) o) c.deref.ensures.value c.record_at.ensures in
     reads (λ (r : Record). slot bs i ≡ bytes_of r) (rec_at bs i) o exact (λ r e. sym (ap rec_of e ∙ rec_of_lem r)) (j.sound i c.if-i-self.false)
     ∙ ap Some (sym (recs-at bs i (rec_at bs i) (omega arith))) ∙ read-in j.secured j.used (recs_in bs) i (rec_at bs i) (omega arith) (omega arith)
