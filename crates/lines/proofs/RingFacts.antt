@@ -102,12 +102,6 @@ module _ {A : Type 0} where
       let m : length (drop h b ++ take h b) ≤ length b = simp (length-take, length-append, length-drop) (omega arith) in
       take_all n (drop h b ++ take h b) (omega arith) ∙ sym (take_all (length b) (drop h b ++ take h b) m)
 
-  pub length-short : (b : List A) (h n : ℕ) → n < length b → n ≡ length (ring b h n)
-  length-short b h n l = omega (arith, length-any b h n)
-
-  pub length-long : (b : List A) (h n : ℕ) → length b ≤ n → length b ≡ length (ring b h n)
-  length-long b h n l = omega (arith, length-any b h n)
-
   pub any-on : (b : List A) (h n s i : ℕ) (x : A) → n < length b → s ≡ start_at h (length b) → n < length b - s → i ≡ s + n → ring (set b i x) s (n + 1) ≡ pushed (length b) (ring b h n) x
   any-on b h n s i x l e m j =
       pushed-on b s n i x (start-in h (length b) s e) m j ∙ ap (λ w. pushed (length b) w x) (sym (ring-start b h n s e))

@@ -4,6 +4,7 @@ ghost use Rattle.lines.specs.Ring.{first, rest, pushed};
 
 // A queue over a lent buffer: the oldest comes first, and what is posted while the buffer is full is dropped. Every post is counted.
 // Its meaning takes any numbers: a head past the end stands at the start, and no more is held than the buffer has places.
+// That is no invariant here: the checker refuses a struct with one that holds a `&mut` where it is passed by value and then changed.
 #[derive(Drop)]
 pub struct Queue<'a, T> {
     buffer: &'a mut [T],
@@ -32,11 +33,7 @@ impl<'a, T: Copy> Queue<'a, T> {
     pub fn len(&self) -> usize
         ensures { result ≡ length (held self.now) }
     {
-        if self.len < self.buffer.len() {
-            self.len
-        } else {
-            self.buffer.len()
-        }
+        self.len.min(self.buffer.len())
     }
 
     // How many it has places for.
@@ -73,6 +70,7 @@ impl<'a, T: Copy> Queue<'a, T> {
         self.posts = self.posts.wrapping_add(1);
         if self.len < self.buffer.len() {
             let head = self.start();
+            // a test in place of a remainder, which would divide at each push
             let left = self.buffer.len() - head;
             let at = if self.len < left {
                 head + self.len
