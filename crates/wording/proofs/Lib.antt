@@ -1,3 +1,1 @@
-mod CallFacts
-mod SampleFacts
-mod TextFacts
+pub mod TextFacts
