@@ -1,17 +1,20 @@
 -- What a post on a board and a search of its cells leave and find.
-use Rattle.std.proofs.Common.{◌≡◌, ℕ, zero, suc, ◌+◌, ◌-◌, ◌%◌, ◌<◌, ◌≤◌, true, false, List, [], ◌∷◌, ◌++◌, length, get_or, take, drop, set, is_some, IfSome, Some, None, Option, sym, refl, ap, ◌∙◌, subst, inl, ⊎_elim, arith}
+use Rattle.std.proofs.Common.{◌≡◌, ℕ, zero, suc, ◌+◌, ◌-◌, ◌%◌, ◌<◌, ◌≤◌, List, [], ◌∷◌, ◌++◌, length, get_or, take, drop, set, is_some, not, cond, IfSome, Some, None, Option, sym, refl, ap, ◌∙◌, subst, inl, ⊎_elim, arith}
 use Rattle.std.specs.Option.{option_map}
-use Rattle.std.proofs.lemmas.List.{take_all, take-append-drop, length-drop, get_or_append_left, get_or-append_right, get_or-drop, get_or-take}
+use Rattle.std.proofs.lemmas.List.{take-append-drop, length-drop, get_or_append_left, get_or-append_right, get_or-drop, get_or-take}
 use Rattle.std.proofs.lemmas.Bool.{cases_lt}
+use Rattle.std.proofs.lemmas.Bool.Decides.{nat_tests}
+use Rattle.std.specs.List.{position, position_or_len}
 use Rattle.words.specs.declared.row.Row.{Row}
 use Rattle.words.specs.Notes.{Note}
 use Rattle.words.specs.declared.notification.Notification.{Notification}
-use Rattle.words.specs.Notes.{note_of, note_in, row_of}
+use Rattle.words.specs.Notes.{note_of, note_in, row_of, cell_of}
+use Rattle.words.proofs.NoteFacts.{note-back}
 use Rattle.lines.specs.Ring.{first, turned}
-use Rattle.boards.specs.Boards.{blank_row, skip, leading, past, moved_on}
+use Rattle.boards.specs.Boards.{blank_row, filled, skip, leading, past, moved_on}
 use Rattle.lines.specs.Lines.{In, Within, there, notes_in}
 use Rattle.lines.proofs.RingFacts.{length-turned}
-use Rattle.lines.proofs.MemberFacts.{in_left, in_right, in-cases, notes_in-append, notes_in-none}
+use Rattle.lines.proofs.MemberFacts.{in_left, in_right, in-cases, notes_in-append}
 use Rattle.lines.proofs.TakeFacts.{in-there, in-there-here, there-cases, in-first, waited-in}
 
 pub within-set : (b : List Row) (i : ℕ) (n : Note) → Some n ≡ note_in (row_of n) → Within (notes_in (set b i (row_of n))) (notes_in b ++ n ∷ [])
@@ -49,27 +52,20 @@ get_or-turned b h k d n hl kl =
     get_or-append_right (drop h b) (take h b) (32 - h) k d l le ∙ get_or-take h b (k - (32 - h)) d lt ∙ ap (λ j. get_or b j d) e)
     (cases_lt (h + k) 32)
 
--- the number of the rows that stand for none, where k do and the next does not
-pub leading_at : (t : List Row) (k : ℕ) (d : Row) → k < length t → notes_in (take k t) ≡ [] → is_some (note_in (get_or t k d)) ≡ true → leading t ≡ k
-leading_at [] k d l e s = absurd (omega arith)
-leading_at (x ∷ xs) zero d l e s = go (note_in x) s
+-- the number of the rows before the first filled one is where that one stands
+pub leading-first : (t : List Row) → leading t ≡ position_or_len filled t
+leading-first [] = refl
+leading-first (w ∷ ws) = go (note_in w) (leading-first ws)
   where
-    go : (o : Option Note) → is_some o ≡ true → skip o (leading xs) ≡ 0
-    go None q = let z : ◌≡◌ {A = ℕ} 0 1 = cc in absurd (omega arith)
-    go (Some y) q = refl
-leading_at (x ∷ xs) (suc k) d l e s = go (note_in x) (λ q. leading_at xs k d (omega arith) q s) e
-  where
-    go : (o : Option Note) → (notes_in (take k xs) ≡ [] → leading xs ≡ k) → there o (notes_in (take k xs)) ≡ [] → skip o (leading xs) ≡ suc k
-    go None below q = ap suc (below q)
-    go (Some y) below q = let z : ◌≡◌ {A = ℕ} 0 1 = cc in absurd (omega arith)
+    go : (o : Option Note) → leading ws ≡ position_or_len filled ws → skip o (leading ws) ≡ cond (not (is_some o)) (1 + position_or_len filled ws) 0
+    go None e = omega arith
+    go (Some n) e = refl
 
-pub leading-none : (t : List Row) → notes_in t ≡ [] → leading t ≡ length t
-leading-none [] e = refl
-leading-none (x ∷ xs) e = go (note_in x) (leading-none xs) e
-  where
-    go : (o : Option Note) → (notes_in xs ≡ [] → leading xs ≡ length xs) → there o (notes_in xs) ≡ [] → skip o (leading xs) ≡ suc (length xs)
-    go None below q = ap suc (below q)
-    go (Some y) below q = let z : ◌≡◌ {A = ℕ} 0 1 = cc in absurd (omega arith)
+position-at : (t : List Row) (k : ℕ) → Some k ≡ position filled t → (k < length t) × (k ≡ leading t)
+position-at t k e = let l = leading-first t in grind (arith, nat_tests)
+
+position-past : (t : List Row) → None ≡ position filled t → length t ≤ leading t
+position-past t e = let l = leading-first t in grind (arith, nat_tests)
 
 -- what stands there
 pub first-leading : (t : List Row) (d : Row) → leading t < length t → note_in (get_or t (leading t) d) ≡ first (notes_in t)
@@ -96,40 +92,28 @@ past-leading (x ∷ xs) h m l = go (note_in x) (past-leading xs h m) l
     go None below q = below (omega arith)
     go (Some y) below q = refl
 
--- an answer and what it means are there together
-pub some_mapped : (o : Option Notification) → is_some (option_map note_of o) ≡ is_some o
-some_mapped None = refl
-some_mapped (Some n) = refl
+-- The same in the words of the code: a search from h found the row k places on, or none.
+pub board-near : (b : List Row) (h k : ℕ) → length b ≡ 32 → h < 32 → Some k ≡ position filled (turned b h) → k < 32
+board-near b h k n hl e = let p = position-at (turned b h) k e in omega (arith, p.0, length-turned b h (omega arith))
 
-pub is_none : (o : Option Note) → is_some o ≡ false → None ≡ o
-is_none None e = refl
-is_none (Some n) e = let z : ◌≡◌ {A = ℕ} 0 1 = cc in absurd (omega arith)
+pub board-found : (b : List Row) (h k : ℕ) (o : Option Notification) → length b ≡ 32 → h < 32 → Some k ≡ position filled (turned b h) → option_map note_of o ≡ note_in (get_or b ((h + k) % 32) blank_row) → option_map note_of o ≡ first (notes_in (turned b h))
+board-found b h k o n hl e f =
+    let p = position-at (turned b h) k e in
+    let kl = board-near b h k n hl e in
+    f ∙ ap note_in (sym (get_or-turned b h k blank_row n hl kl)) ∙ ap (λ j. note_in (get_or (turned b h) j blank_row)) p.1 ∙ first-leading (turned b h) blank_row (omega (arith, p.0, p.1))
 
--- The same in the words of the code: the row at turn k of a search from h.
-pub ahead_more : (b : List Row) (h k : ℕ) (o : Option Notification) → length b ≡ 32 → h < 32 → k < 32 → notes_in (take k (turned b h)) ≡ [] → option_map note_of o ≡ note_in (get_or b ((h + k) % 32) blank_row) → is_some o ≡ false → notes_in (take (k + 1) (turned b h)) ≡ []
-ahead_more b h k o n hl kl s e f =
-    notes_in-none (turned b h) k blank_row (omega (arith, length-turned b h (omega arith))) (is_none (option_map note_of o) (some_mapped o ∙ f) ∙ e ∙ ap note_in (sym (get_or-turned b h k blank_row n hl kl))) ∙ s
-
-pub ahead-at : (b : List Row) (h k : ℕ) (o : Option Notification) → length b ≡ 32 → h < 32 → k < 32 → notes_in (take k (turned b h)) ≡ [] → option_map note_of o ≡ note_in (get_or b ((h + k) % 32) blank_row) → is_some o ≡ true → k ≡ leading (turned b h)
-ahead-at b h k o n hl kl s e f =
-    sym (leading_at (turned b h) k blank_row (omega (arith, length-turned b h (omega arith))) s (ap is_some (ap note_in (get_or-turned b h k blank_row n hl kl) ∙ sym e) ∙ some_mapped o ∙ f))
-
-pub ahead_none : (b : List Row) (h k : ℕ) → length b ≡ 32 → h < 32 → 32 ≤ k → notes_in (take k (turned b h)) ≡ [] → 32 ≡ leading (turned b h)
-ahead_none b h k n hl kl s =
-    let l = length-turned b h (omega arith) in
-    sym (leading-none (turned b h) (ap notes_in (sym (take_all k (turned b h) (omega arith))) ∙ s) ∙ l ∙ n)
-
-pub board-found : (b : List Row) (h k : ℕ) (o : Option Notification) → length b ≡ 32 → h < 32 → k < 32 → k ≡ leading (turned b h) → option_map note_of o ≡ note_in (get_or b ((h + k) % 32) blank_row) → option_map note_of o ≡ first (notes_in (turned b h))
-board-found b h k o n hl kl e f =
-    f ∙ ap note_in (sym (get_or-turned b h k blank_row n hl kl)) ∙ ap (λ j. note_in (get_or (turned b h) j blank_row)) e ∙ first-leading (turned b h) blank_row (omega (arith, length-turned b h (omega arith)))
-
-pub board-next : (b : List Row) (h k : ℕ) → length b ≡ 32 → h < 32 → k < 32 → k ≡ leading (turned b h) → ((h + k) % 32 + 1) % 32 ≡ moved_on h (turned b h)
-board-next b h k n hl kl e =
+pub board-next : (b : List Row) (h k : ℕ) → length b ≡ 32 → h < 32 → Some k ≡ position filled (turned b h) → ((h + k) % 32 + 1) % 32 ≡ moved_on h (turned b h)
+board-next b h k n hl e =
+    let p = position-at (turned b h) k e in
     let step : ((h + k) % 32 + 1) % 32 ≡ (h + k + 1) % 32 = omega arith in
-    step ∙ ap (λ m. (h + m + 1) % 32) e ∙ sym (past-leading (turned b h) h (leading (turned b h)) (omega (arith, length-turned b h (omega arith))))
+    step ∙ ap (λ m. (h + m + 1) % 32) p.1 ∙ sym (past-leading (turned b h) h (leading (turned b h)) (omega (arith, p.0, p.1)))
 
-pub board-none : (b : List Row) (h k : ℕ) → length b ≡ 32 → h < 32 → 32 ≤ k → k ≡ leading (turned b h) → None ≡ first (notes_in (turned b h))
-board-none b h k n hl kl e = sym (ap first (none-leading (turned b h) (omega (arith, length-turned b h (omega arith)))))
+pub board-none : (b : List Row) (h : ℕ) → None ≡ position filled (turned b h) → None ≡ first (notes_in (turned b h))
+board-none b h e = sym (ap first (none-leading (turned b h) (position-past (turned b h) e)))
 
-pub board-still : (b : List Row) (h k : ℕ) → length b ≡ 32 → h < 32 → 32 ≤ k → k ≡ leading (turned b h) → h ≡ moved_on h (turned b h)
-board-still b h k n hl kl e = ap (λ o. past o h (leading (turned b h))) (board-none b h k n hl kl e)
+pub board-still : (b : List Row) (h : ℕ) → None ≡ position filled (turned b h) → h ≡ moved_on h (turned b h)
+board-still b h e = ap (λ o. past o h (leading (turned b h))) (board-none b h e)
+
+-- a post, in the words of the code
+pub posted-within : (b : List Row) (i : ℕ) (w : Row) (n : Notification) → i ≡ cell_of (note_of n) → w ≡ row_of (note_of n) → Within (notes_in (set b i w)) (notes_in b ++ note_of n ∷ [])
+posted-within b i w n e f = subst (λ (v : Row). Within (notes_in (set b i v)) (notes_in b ++ note_of n ∷ [])) (sym f) (within-set b i (note_of n) (note-back n))

@@ -1,5 +1,5 @@
 -- A board's cells, and where a search for a filled one ends.
-use Rattle.std.specs.Prelude.{◌≡◌, ℕ, suc, ◌+◌, ◌%◌, ◌^◌, List, [], ◌∷◌, Some, None, Option, slice_set}
+use Rattle.std.specs.Prelude.{◌≡◌, ℕ, suc, Bool, is_some, ◌+◌, ◌%◌, ◌^◌, List, [], ◌∷◌, Some, None, Option, slice_set}
 use Rattle.lines.specs.Lines.{notes_in}
 use Rattle.words.specs.Notes.{Note, note_in, row_of, cell_of}
 use Rattle.lines.specs.Ring.{first}
@@ -16,6 +16,10 @@ pub record BoardStep (b : Board) (n : Note) (c : Board) : Type 0 where
   pub cells : c.cells ≡ slice_set b.cells (cell_of n) (row_of n)
   pub next : c.next ≡ b.next
   pub posted : c.posts ≡ (b.posts + 1) % 2 ^ 64
+
+-- whether a row is a notification's
+abbrev pub filled : Row → Bool
+filled w = is_some (note_in w)
 
 abbrev pub skip : Option Note → ℕ → ℕ
 skip None n = suc n

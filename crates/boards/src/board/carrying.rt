@@ -1,13 +1,15 @@
-ghost use Rattle.std.specs.Prelude.{◌≡◌, ◌+◌, ◌%◌, ◌^◌, ◌<◌, [], ◌∷◌, ◌++◌, replicate, IfSome};
+ghost use Rattle.std.specs.Prelude.{◌≡◌, ◌+◌, ◌%◌, ◌^◌, ◌<◌, false, [], ◌∷◌, ◌++◌, replicate, IfSome};
 ghost use Rattle.std.specs.Option.{option_map};
-ghost use Rattle.boards.specs.Boards.{BoardStep, blank_row, leading, moved_on};
+ghost use Rattle.std.specs.List.{position};
+ghost use Rattle.boards.specs.Boards.{BoardStep, blank_row, filled, moved_on};
+ghost use Rattle.boards.specs.Kept.{never, keeps-posted};
 ghost use Rattle.lines.specs.Lines.{In, Within, notes_in};
 ghost use Rattle.words.specs.Notes.{note_of, row_of, cell_of};
 ghost use Rattle.lines.specs.Ring.{first, turned};
 ghost use Rattle.boards.specs.Sizes.{cell_count};
 
 use super::{Board, CELLS};
-use lines::line::Line;
+use lines::line::{Counted, Line};
 use words::notification::Notification;
 use words::row::Row;
 
@@ -25,25 +27,28 @@ impl Board {
         }
     }
 
-    // How many were posted, wrapping.
-    pub fn posts(&self) -> u64
-        ensures { result ≡ self.now.posts }
+    // How far from the next cell the first filled one is, going round, or none where none is filled.
+    fn ahead(&self) -> Option<usize>
+        ensures { result ≡ position filled (turned self.now.cells self.now.next) }
     {
-        self.posts
+        let (before, after) = self.cells.split_at(self.next);
+        after.iter().chain(before.iter()).position(is_filled)
     }
+}
 
-    // How far from the next cell the first filled one is, going round, or the number of cells where none is filled.
-    fn ahead(&self) -> usize
-        ensures { result ≡ leading (turned self.now.cells self.now.next) }
-    {
-        for k in 0..CELLS {
-            let at = (self.next + k) % CELLS;
-            if self.cells[at].notification().is_some() {
-                return k;
-            }
-        }
-        CELLS
+impl Default for Board {
+    ghost is_default = { λ b. (b.cells ≡ replicate cell_count blank_row) × (b.next ≡ 0) × (b.posts ≡ 0) };
+
+    fn default() -> Board {
+        Board::new()
     }
+}
+
+// Whether a cell's row is a notification's.
+fn is_filled(row: &Row) -> bool
+    ensures { result ≡ filled row.now }
+{
+    Notification::try_from(*row).is_ok()
 }
 
 // The cell of a notification.
@@ -51,12 +56,7 @@ fn cell(notification: Notification) -> usize
     ensures value { result ≡ cell_of (note_of notification) }
     ensures within { result < cell_count }
 {
-    let down = 2 * notification.seat.number() as usize;
-    if notification.kind.goes_up() {
-        down + 1
-    } else {
-        down
-    }
+    2 * usize::from(notification.seat.number()) + usize::from(notification.kind.goes_up())
 }
 
 impl Line for Board {
@@ -74,7 +74,7 @@ impl Line for Board {
     {
         self.posts = self.posts.wrapping_add(1);
         let at = cell(notification);
-        self.cells[at] = Row::of(notification);
+        self.cells[at] = Row::from(notification);
     }
 
     // Beyond what every line promises: it is the next filled cell's after the last given, going round, and no cell is cleared.
@@ -86,12 +86,26 @@ impl Line for Board {
         ensures cells { self.new.cells ≡ self.old.cells }
         ensures next { self.new.next ≡ moved_on self.old.next (turned self.old.cells self.old.next) }
     {
-        let k = self.ahead();
-        if k >= CELLS {
-            return None;
-        }
-        let at = (self.next + k) % CELLS;
+        let ahead = self.ahead()?;
+        let at = (self.next + ahead) % CELLS;
         self.next = (at + 1) % CELLS;
-        self.cells[at].notification()
+        Notification::try_from(self.cells[at]).ok()
+    }
+}
+
+impl Counted for Board {
+    ghost full = { λ _. false };
+
+    ghost drops = { λ b c n full step. never full };
+
+    ghost keeps = { λ b c n free step. keeps-posted b.cells c.cells n b.long step.cells };
+
+    fn posts(&self) -> u64 {
+        self.posts
+    }
+
+    // A post overwrites its cell and is never dropped.
+    fn is_full(&self) -> bool {
+        false
     }
 }

@@ -1,32 +1,28 @@
-use Rattle.std.proofs.Common.{refl}
-use Rattle.lines.specs.Lines.{notes_in}
+use Rattle.std.proofs.Common.{rules, arith}
 use Rattle.lines.proofs.MemberFacts.{within_same}
-use Rattle.boards.proofs.BoardFacts.{waited-turned, board-found, board-next, board-none, board-still}
+use Rattle.boards.proofs.BoardFacts.{waited-turned, board-near, board-found, board-next, board-none, board-still}
 use Rattle.boards.proofs.board.carrying.BoardLine.take.Goals as goal
 
-pub returns-then-k-ge-CELLS : goal.returns-then-k-ge-CELLS
-returns-then-k-ge-CELLS c =
-    let b = c.args.self.now in
-    let k = c.ahead-k.result in
-    record {
-      waited = tt;
-      waits = within_same (notes_in b.cells);
-      counted = refl;
-      taken = board-none b.cells b.next k b.long b.within c.if-k-ge-CELLS.true c.ahead-k.ensures;
-      cells = refl;
-      next = board-still b.cells b.next k b.long b.within c.if-k-ge-CELLS.true c.ahead-k.ensures;
-    }
+pub returns-in_err-ahead-clause-waits : goal.returns-in_err-ahead-clause-waits
+returns-in_err-ahead-clause-waits c = within_same _
 
-pub returns : goal.returns
-returns c =
-    let b = c.args.self.now in
-    let k = c.ahead-k.result in
-    let found = board-found b.cells b.next k c.notification.result b.long b.within c.if-k-ge-CELLS.false c.ahead-k.ensures c.notification.ensures.note in
-    record {
-      waited = waited-turned c.notification.result b.cells b.next found;
-      waits = within_same (notes_in b.cells);
-      counted = refl;
-      taken = found;
-      cells = refl;
-      next = board-next b.cells b.next k b.long b.within c.if-k-ge-CELLS.false c.ahead-k.ensures;
-    }
+pub returns-in_err-ahead-clause-taken : goal.returns-in_err-ahead-clause-taken
+returns-in_err-ahead-clause-taken c = search (rules, board-none)
+
+pub returns-in_err-ahead-clause-next : goal.returns-in_err-ahead-clause-next
+returns-in_err-ahead-clause-next c = search (rules, board-still)
+
+pub overflow_add-at : goal.overflow_add-at
+overflow_add-at c = let b = c.args.self.now in let k = board-near b.cells b.next c.in_ok-ahead.ahead b.long b.within c.in_ok-ahead.ensures in omega arith
+
+pub returns-clause-waited : goal.returns-clause-waited
+returns-clause-waited c = waited-turned _ c.args.self.now.cells c.args.self.now.next (search (rules, board-found))
+
+pub returns-clause-waits : goal.returns-clause-waits
+returns-clause-waits c = within_same _
+
+pub returns-clause-taken : goal.returns-clause-taken
+returns-clause-taken c = search (rules, board-found)
+
+pub returns-clause-next : goal.returns-clause-next
+returns-clause-next c = search (rules, board-next)
