@@ -2,21 +2,12 @@
 use crate::relay;
 use crate::word_examples::seven;
 use boards::board::Board;
-use lines::line::Line;
+use lines::line::{Counted, Line};
 use lines::queue::Queue;
 use lines::trace::TraceEntry;
 use std::test::Fail;
 use words::kind::Kind;
 use words::row::Row;
-
-// A row that is no notification's.
-fn blank() -> Row {
-    Row {
-        transaction: 0,
-        seat: 0,
-        kind: 0,
-    }
-}
 
 #[test]
 fn an_empty_buffer_drops_all(rt: HostRuntime) -> Result<(), Fail> {
@@ -31,7 +22,7 @@ fn an_empty_buffer_drops_all(rt: HostRuntime) -> Result<(), Fail> {
 
 #[test]
 fn one_place_holds_the_oldest(rt: HostRuntime) -> Result<(), Fail> {
-    let mut rows = [blank(); 1];
+    let mut rows = [Row::BLANK; 1];
     let mut queue = Queue::new(&mut rows);
     queue.post(seven(1, Kind::Prepare)?);
     queue.post(seven(2, Kind::Prepare)?);
@@ -46,7 +37,7 @@ fn one_place_holds_the_oldest(rt: HostRuntime) -> Result<(), Fail> {
 
 #[test]
 fn a_queue_goes_round_in_order(rt: HostRuntime) -> Result<(), Fail> {
-    let mut rows = [blank(); 3];
+    let mut rows = [Row::BLANK; 3];
     let mut queue = Queue::new(&mut rows);
     queue.post(seven(0, Kind::Prepare)?);
     queue.post(seven(1, Kind::Prepare)?);
@@ -64,12 +55,12 @@ fn a_queue_goes_round_in_order(rt: HostRuntime) -> Result<(), Fail> {
 
 #[test]
 fn rows_are_posted_in_their_order(rt: HostRuntime) -> Result<(), Fail> {
-    let mut rows = [blank(); 4];
+    let mut rows = [Row::BLANK; 4];
     let mut queue = Queue::new(&mut rows);
     queue.post_all(&[
-        Row::of(seven(4, Kind::Commit)?),
-        blank(),
-        Row::of(seven(2, Kind::Rollback)?),
+        Row::from(seven(4, Kind::Commit)?),
+        Row::BLANK,
+        Row::from(seven(2, Kind::Rollback)?),
     ]);
     assert_eq!(rt; queue.posts(), 2);
     assert_eq!(rt; queue.take(), Some(seven(4, Kind::Commit)?));
@@ -120,7 +111,7 @@ fn a_board_overwrites_its_cell_alone(rt: HostRuntime) -> Result<(), Fail> {
 
 #[test]
 fn a_relay_joins_two_lines(rt: HostRuntime) -> Result<(), Fail> {
-    let mut rows = [blank(); 2];
+    let mut rows = [Row::BLANK; 2];
     let mut queue = Queue::new(&mut rows);
     let mut board = Board::new();
     assert!(rt; !relay(&mut queue, &mut board));
@@ -129,5 +120,24 @@ fn a_relay_joins_two_lines(rt: HostRuntime) -> Result<(), Fail> {
     assert!(rt; !relay(&mut queue, &mut board));
     assert_eq!(rt; board.take(), Some(seven(9, Kind::Aborted)?));
     assert_eq!(rt; board.posts(), 1);
+    Ok(())
+}
+
+// What a line tells of itself.
+fn told<L: Counted>(line: &L) -> (u64, bool) {
+    (line.posts(), line.is_full())
+}
+
+#[test]
+fn lines_tell_of_themselves(rt: HostRuntime) -> Result<(), Fail> {
+    let mut rows = [Row::BLANK; 1];
+    let mut queue = Queue::new(&mut rows);
+    let mut board = Board::default();
+    assert_eq!(rt; told(&queue), (0, false));
+    assert_eq!(rt; told(&board), (0, false));
+    queue.post(seven(1, Kind::Prepare)?);
+    board.post(seven(1, Kind::Prepare)?);
+    assert_eq!(rt; told(&queue), (1, true));
+    assert_eq!(rt; told(&board), (1, false));
     Ok(())
 }

@@ -3,21 +3,19 @@ use logs::log::Full;
 use seats::seat::Seat;
 use std::test::Fail;
 use words::fault::Fault;
-use words::kind::Kind;
+use words::kind::{Kind, UnknownKind};
 use words::notification::Notification;
 use words::outbox::lay;
-use words::row::Row;
+use words::row::{NoNotification, Row};
 
 // A notification of transaction 7.
 pub(crate) fn seven(seat: u8, kind: Kind) -> Result<Notification, Fail> {
-    match Seat::new(seat) {
-        Some(seat) => Ok(Notification {
-            transaction: 7,
-            seat,
-            kind,
-        }),
-        None => Err(Fail::new("no such seat")),
-    }
+    let seat = Seat::new(seat).ok_or_else(|| Fail::new("no such seat"))?;
+    Ok(Notification {
+        transaction: 7,
+        seat,
+        kind,
+    })
 }
 
 // The row of numbers.
@@ -32,31 +30,39 @@ fn row(transaction: u32, seat: u8, kind: u8) -> Row {
 #[test]
 fn kinds_by_number_and_name(rt: HostRuntime) -> Result<(), Fail> {
     for number in 1..8u8 {
-        let Some(kind) = Kind::from_number(number) else {
-            return Err(Fail::new(number));
-        };
-        assert_eq!(rt; kind.number(), number);
+        let kind = Kind::try_from(number)?;
+        assert_eq!(rt; u8::from(kind), number);
         assert_eq!(rt; kind.goes_up(), number >= 4);
-        assert_eq!(rt; Kind::from_name(kind.name()), Some(kind));
+        assert_eq!(rt; kind.name().parse(), Ok(kind));
     }
-    assert!(rt; Kind::from_number(0).is_none());
-    assert!(rt; Kind::from_number(8).is_none());
-    assert!(rt; Kind::from_number(255).is_none());
-    assert!(rt; Kind::from_name("prepare").is_none());
-    assert!(rt; Kind::from_name("").is_none());
+    assert_eq!(rt; Kind::try_from(0), Err(UnknownKind));
+    assert_eq!(rt; Kind::try_from(8), Err(UnknownKind));
+    assert_eq!(rt; Kind::try_from(255), Err(UnknownKind));
+    assert_eq!(rt; "prepare".parse::<Kind>(), Err(UnknownKind));
+    assert_eq!(rt; "".parse::<Kind>(), Err(UnknownKind));
     Ok(())
 }
 
 #[test]
 fn rows_are_read_back_with_a_check(rt: HostRuntime) -> Result<(), Fail> {
     let committed = seven(15, Kind::Committed)?;
-    assert_eq!(rt; Row::of(committed), row(7, 15, 7));
-    assert_eq!(rt; row(7, 15, 7).notification(), Some(committed));
-    assert_eq!(rt; row(7, 0, 1).notification(), Some(seven(0, Kind::Prepare)?));
-    assert!(rt; row(7, 16, 7).notification().is_none());
-    assert!(rt; row(7, 255, 1).notification().is_none());
-    assert!(rt; row(7, 15, 0).notification().is_none());
-    assert!(rt; row(7, 15, 8).notification().is_none());
+    assert_eq!(rt; Row::from(committed), row(7, 15, 7));
+    assert_eq!(rt; row(7, 15, 7).try_into(), Ok(committed));
+    assert_eq!(rt; row(7, 0, 1).try_into(), Ok(seven(0, Kind::Prepare)?));
+    assert_eq!(rt; Notification::try_from(row(7, 16, 7)), Err(NoNotification));
+    assert_eq!(rt; Notification::try_from(row(7, 255, 1)), Err(NoNotification));
+    assert_eq!(rt; Notification::try_from(row(7, 15, 0)), Err(NoNotification));
+    assert_eq!(rt; Notification::try_from(row(7, 15, 8)), Err(NoNotification));
+    Ok(())
+}
+
+#[test]
+fn a_notification_prints_its_parts(rt: HostRuntime) -> Result<(), Fail> {
+    let prepared = seven(3, Kind::Prepared)?;
+    assert_eq!(rt;
+        prepared.to_string(rt.alloc())?.as_str(),
+        "transaction 7, seat 3, Prepared"
+    );
     Ok(())
 }
 
@@ -78,9 +84,7 @@ fn an_outbox_keeps_its_rest(rt: HostRuntime) -> Result<(), Fail> {
 #[test]
 fn faults_say_what_they_mean(rt: HostRuntime) -> Result<(), Fail> {
     let heap = rt.alloc();
-    let Some(seat) = Seat::new(3) else {
-        return Err(Fail::new("no such seat"));
-    };
+    let seat = Seat::new(3).ok_or_else(|| Fail::new("no such seat"))?;
     let peer = Fault::InvalidPeer {
         seat,
         state: 4u8,

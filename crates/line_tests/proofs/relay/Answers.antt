@@ -1,4 +1,4 @@
-use Rattle.std.proofs.Common.{List, [], ◌∷◌, ◌++◌, sym, refl, subst, inl, inr, ⊎_elim}
+use Rattle.std.proofs.Common.{List, [], ◌∷◌, ◌++◌, subst, sym, inl, inr, ⊎_elim}
 use Rattle.lines.proofs.MemberFacts.{in_left, in_right, in-cases, within-left}
 use Rattle.lines.specs.Lines.{In, Within}
 use Rattle.words.specs.Notes.{Note}
@@ -13,20 +13,8 @@ joined a b c n h f x m = ⊎_elim (in_left x a b) (λ (k : In x (n ∷ [])). in_
     one (inl e) = subst (λ (y : Note). In y b) (sym e) h
     one (inr z) = absurd z
 
-pub returns-in-Some : goal.returns-in-Some
-returns-in-Some g c =
-    record {
-      taken = c.take.ensures.waits;
-      posted = joined (g.M.Line.waiting c.args.to.now) (g.N.Line.waiting c.args.from.now) (g.M.Line.waiting c.post.new.self) _ c.in-Some.ensures.waited c.post.ensures.waits;
-      unposted = c.take.ensures.counted;
-      counted = c.post.ensures.counted;
-    }
+pub returns-in-Some-clause-posted : goal.returns-in-Some-clause-posted
+returns-in-Some-clause-posted g c = joined _ _ _ _ c.in-Some.ensures.waited c.post.ensures.waits
 
-pub returns-in-None : goal.returns-in-None
-returns-in-None g c =
-    record {
-      taken = c.take.ensures.waits;
-      posted = within-left (g.M.Line.waiting c.args.to.now) (g.N.Line.waiting c.args.from.now);
-      unposted = c.take.ensures.counted;
-      counted = refl;
-    }
+pub returns-in-None-clause-posted : goal.returns-in-None-clause-posted
+returns-in-None-clause-posted g c = within-left _ _
