@@ -31,10 +31,7 @@ const OUTBOX: [Row; 2] = [
 
 // A seat whose number is below 16.
 fn seat(number: u8) -> Result<Seat, Fail> {
-    match Seat::new(number) {
-        Some(seat) => Ok(seat),
-        None => Err(Fail::new("no such seat")),
-    }
+    Seat::new(number).ok_or_else(|| Fail::new("no such seat"))
 }
 
 // What transaction 9 says to seat 3, or from there.
@@ -48,18 +45,12 @@ fn said(kind: Kind) -> Result<Notification, Fail> {
 
 // The count of an answer without a fault.
 fn count(answer: Result<usize, Fault<State>>) -> Result<usize, Fail> {
-    match answer {
-        Ok(count) => Ok(count),
-        Err(_) => Err(Fail::new("a fault")),
-    }
+    answer.map_err(|_| Fail::new("a fault"))
 }
 
 // The fault of an answer.
 fn fault(answer: Result<usize, Fault<State>>) -> Result<Fault<State>, Fail> {
-    match answer {
-        Ok(_) => Err(Fail::new("no fault")),
-        Err(fault) => Ok(fault),
-    }
+    answer.err().ok_or_else(|| Fail::new("no fault"))
 }
 
 // A participant that has voted for the step and waits for the outcome.
@@ -83,7 +74,7 @@ fn the_rest_of_the_outbox_is_kept(rt: HostRuntime) -> Result<(), Fail> {
     let mut store = doubting(&rt, &mut log)?;
     let mut outbox = OUTBOX;
     assert_eq!(rt; count(store.resend(&mut outbox))?, 1);
-    assert_eq!(rt; outbox[0], Row::of(said(Kind::Prepared)?));
+    assert_eq!(rt; outbox[0], Row::from(said(Kind::Prepared)?));
     assert_eq!(rt; outbox[1], OUTBOX[1]);
     Ok(())
 }
@@ -178,6 +169,6 @@ fn a_full_log_is_told(rt: HostRuntime) -> Result<(), Fail> {
         _ => return Err(Fail::new("fault 10 was due")),
     }
     assert_eq!(rt; late.state(), State::Undone);
-    assert_eq!(rt; outbox[0], Row::of(said(Kind::Aborted)?));
+    assert_eq!(rt; outbox[0], Row::from(said(Kind::Aborted)?));
     Ok(())
 }

@@ -10,7 +10,7 @@ use std::error::Error;
 use std::fmt;
 
 // A notification as a plain row of numbers, which any numbers may fill: outboxes and lines hold these, and read them back with a check.
-#[derive(Clone, Copy, PartialEq, Eq, Debug)]
+#[derive(Clone, Copy, PartialEq, Eq, Debug, Default)]
 pub struct Row {
     pub transaction: u32,
     pub seat: u8,

@@ -1,0 +1,29 @@
+// Plays from standard input.
+use crate::refusal::{Refusal, Slip};
+
+// What is played, a line of input at a time.
+pub(crate) trait Play {
+    // What a line asks for.
+    type Step: Drop;
+
+    // The step that a line asks for, or none where it asks for nothing.
+    fn read(&self, line: &str) -> Result<Option<Self::Step>, Slip>;
+
+    // Takes a step, and tells what it did.
+    fn take(&mut self, rt: &HostRuntime, step: Self::Step) -> Result<(), Refusal<'static>>;
+}
+
+// Plays every line of standard input.
+pub(crate) fn play_all<P: Play>(rt: &HostRuntime, game: &mut P) -> Result<(), Refusal<'static>> {
+    let mut number = 0u64;
+    for line in rt.lines(rt.alloc()) {
+        number = number.saturating_add(1);
+        let line = line?;
+        match game.read(line.as_str()) {
+            Ok(Some(step)) => game.take(rt, step)?,
+            Ok(None) => {}
+            Err(slip) => return Err(Refusal::Line { number, slip }),
+        }
+    }
+    Ok(())
+}

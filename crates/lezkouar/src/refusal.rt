@@ -1,0 +1,61 @@
+// Why the program did not do what was asked, or not to its end.
+use std::alloc::{AllocError, AllocFailed};
+use std::io;
+use thiserror::Error;
+use wording::call::USAGE;
+
+// Why a line of input asks for nothing that there is.
+#[derive(Clone, Copy, Debug, Error)]
+pub(crate) enum Slip {
+    #[error("a step is 'post T SEAT KIND' or 'take'")]
+    Step,
+    #[error("post takes a transaction, a seat and a kind")]
+    PostParts,
+    #[error("a call is 'receive', 'vote', 'settle', 'expire', 'resend', 'cut N', 'outbox N', 'fill N' or 'log'")]
+    Act,
+    #[error("receive takes a kind, or a transaction, a seat and a kind")]
+    ReceiveParts,
+    #[error("a transaction is a number from 0 to 4294967295")]
+    Transaction,
+    #[error("a seat is a number from 0 to 15")]
+    Seat,
+    #[error("a kind is Prepare, Commit, Rollback, Prepared, ReadOnly, Aborted or Committed")]
+    Kind,
+    #[error("a vote is prepared, readonly or aborted")]
+    Ballot,
+    #[error("cut takes a number from 0 to 4294967295")]
+    Cut,
+    #[error("outbox takes a number of places from 0 to 16")]
+    Places,
+    #[error("fill takes a number of records from 0 to 4294967295")]
+    Fill,
+}
+
+// Why a call of the program ends with status 1; the words as they were given.
+#[derive(Debug, Drop, Error)]
+pub(crate) enum Refusal<'a> {
+    #[error("unknown command\n\n{USAGE}")]
+    Unknown,
+    #[error("COUNT is a number of records, not '{0}'")]
+    Count(&'a str),
+    #[error("PLACES is a number of notifications, not '{0}'")]
+    Places(&'a str),
+    #[error("BYTES is a number of bytes, not '{0}'")]
+    Bytes(&'a str),
+    #[error("cannot read {file}: {why}")]
+    Unread { file: &'a str, why: io::Error },
+    #[error("{file}: record {record} is malformed or lies outside the file")]
+    Malformed { file: &'a str, record: usize },
+    #[error("line {number}: {slip}")]
+    Line { number: u64, slip: Slip },
+    #[error("{0}")]
+    Memory(#[from] AllocError),
+    #[error("{0}")]
+    System(#[from] io::Error),
+}
+
+impl<'a, T: Drop> From<AllocFailed<T>> for Refusal<'a> {
+    fn from(why: AllocFailed<T>) -> Refusal<'a> {
+        Refusal::Memory(AllocError::from(why))
+    }
+}
