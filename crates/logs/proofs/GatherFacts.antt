@@ -104,3 +104,6 @@ read_above cap s l xs i h =
 pub kept-part : (cap k : ℕ) (s l xs : List Rec) → k ≤ length l → take k l ≡ take k (fitted cap s l xs)
 unfolding fitted
 kept-part cap k s l xs h = sym (take-append-le k l (take (cap - (length s + length l)) xs) h)
+
+-- the goals that follow from these alone
+pub ruleset gathering = (first_of-none, first_of-length, fitted_none, fitted-length)

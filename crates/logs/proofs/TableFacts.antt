@@ -1,5 +1,6 @@
 -- The two lists of a table, of which the first b records count and the first a of these are safe.
 use Rattle.std.proofs.Common.{◌≡◌, ℕ, ◌+◌, ◌-◌, ◌<◌, ◌≤◌, List, [], ◌∷◌, ◌++◌, length, get_or, take, drop, Some, None, sym, ap, ◌∙◌, arith, length-append, length-drop, take-append-drop, length-take}
+use lib.ListN.{length-map}
 use Rattle.std.proofs.lemmas.List.{length-take-le, length_push, take_all, drop_all, drop-take, take-take, take-append-le, drop-append-le, get_or-take}
 use Rattle.std.proofs.lemmas.Option.{slice_get-get_or, slice_get_past}
 use Rattle.std.specs.List.{slice_get}
@@ -35,6 +36,9 @@ pub safe_of-all : (a b : ℕ) (xs : List Rec) → safe_of b b xs ≡ safe_of a b
 unfolding safe_of
 safe_of-all a b xs = take-take b b xs (omega arith) ∙ sym (joined a b xs)
 
+pub all-safe_of : (a b : ℕ) (xs : List Rec) → safe_of a b xs ++ loose_of a b xs ≡ safe_of b b xs
+all-safe_of a b xs = sym (safe_of-all a b xs)
+
 pub loose_of-none : (b : ℕ) (xs : List Rec) → loose_of b b xs ≡ []
 unfolding loose_of
 loose_of-none b xs = drop_all b (take b xs) (simp length-take (omega arith))
@@ -68,3 +72,6 @@ safe_of-part a b k xs h =
     ∙ take-append-drop a (take (a + k) (take b m))
     ∙ take-take (a + k) b m h in
     take-take (a + k) (a + k) m (omega arith) ∙ sym whole
+
+-- the goals that follow from these alone
+pub ruleset tables = (both, all-safe_of, loose_of-none, length-map)

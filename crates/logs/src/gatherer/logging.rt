@@ -68,6 +68,7 @@ impl<L: Log> Log for Gatherer<L> {
         self.held[..fitting].get(i - under).copied()
     }
 
+    #[tactic(auto, using(crate::proofs::GatherFacts::gathering))]
     fn count(&self) -> usize {
         self.capacity() - self.below.spare().saturating_sub(self.holding)
     }

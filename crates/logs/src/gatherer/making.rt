@@ -8,6 +8,7 @@ use seats::set::SeatSet;
 
 impl<L: Log> Gatherer<L> {
     // A gatherer over a log, holding nothing.
+    #[tactic(auto, using(crate::proofs::GatherFacts::gathering))]
     pub fn over(below: L) -> Gatherer<L>
         ensures below { result.below ≡ below }
         ensures holding { result.holding ≡ 0 }

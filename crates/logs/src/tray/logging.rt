@@ -13,6 +13,7 @@ use records::row::Row;
 
 impl Tray {
     // A tray without records.
+    #[tactic(auto, unfolding(crate::specs::Tables::safe_of, crate::specs::Tables::loose_of))]
     pub fn new() -> Tray
         ensures safe { safe_in result ≡ [] }
         ensures loose { loose_in result ≡ [] }
@@ -47,6 +48,7 @@ impl Log for Tray {
         Ok(())
     }
 
+    #[tactic(auto, using(crate::proofs::TableFacts::tables))]
     fn secure(&mut self) {
         self.secured = self.rows.len();
     }
@@ -55,6 +57,7 @@ impl Log for Tray {
         Record::try_from(*self.rows.get(i)?).ok()
     }
 
+    #[tactic(auto, using(crate::proofs::TableFacts::tables))]
     fn count(&self) -> usize {
         self.rows.len()
     }
