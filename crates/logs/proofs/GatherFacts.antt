@@ -68,12 +68,6 @@ fitted-more cap s l xs m w =
     sym (loose-off cap s (l ++ take sp xs) m off) ∙ ap (λ (z : List Rec). l ++ z) (sym (take-append-le sp xs (m ∷ []) h)))
     (cases_lt (length xs) sp)
 
--- one more, where what is known of the log below stands in equations
-pub add_step : (cap cap' : ℕ) (s s' l l' xs : List Rec) (m : Rec) → cap' ≡ cap → s' ≡ s → l' ≡ fitted cap s l xs → length s + length l ≤ cap → loose_after cap' s' l' m ≡ fitted cap s l (xs ++ m ∷ [])
-add_step cap cap' s s' l l' xs m a b e w =
-    let same : loose_after cap' s' l' m ≡ loose_after cap s (fitted cap s l xs) m = cc in
-    same ∙ fitted-more cap s l xs m w
-
 blank : Rec
 blank = record { transaction = 0; kind = 0; seats = 0 }
 
@@ -106,4 +100,4 @@ unfolding fitted
 kept-part cap k s l xs h = sym (take-append-le k l (take (cap - (length s + length l)) xs) h)
 
 -- the goals that follow from these alone
-pub ruleset gathering = (first_of-none, first_of-length, fitted_none, fitted-length)
+pub ruleset gathering = (first_of-none, first_of-more, first_of-set, first_of-all, first_of-length, fitted_none, fitted-length, fitted-more, kept-part)

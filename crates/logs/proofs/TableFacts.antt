@@ -73,5 +73,8 @@ safe_of-part a b k xs h =
     ∙ take-take (a + k) b m h in
     take-take (a + k) (a + k) m (omega arith) ∙ sym whole
 
+pub part-safe_of : (a b k : ℕ) (xs : List Rec) → a + k ≤ b → safe_of a b xs ++ take k (loose_of a b xs) ≡ safe_of (a + k) (a + k) xs
+part-safe_of a b k xs h = sym (safe_of-part a b k xs h)
+
 -- the goals that follow from these alone
-pub ruleset tables = (both, all-safe_of, loose_of-none, length-map)
+pub ruleset tables = (both, all-safe_of, part-safe_of, safe_of-kept, loose_of-none, loose_of-length, read-in, read_past, length-map)

@@ -38,6 +38,7 @@ impl Log for Tray {
 
     ghost atmost = { λ t n. smaller (length (loose_in t)) n };
 
+    #[tactic(auto, using(crate::proofs::TableFacts::tables))]
     fn add(&mut self, record: Record) -> Result<(), Full> {
         if self.rows.is_full() {
             return Err(Full {
@@ -53,6 +54,7 @@ impl Log for Tray {
         self.secured = self.rows.len();
     }
 
+    #[tactic(auto, using(crate::proofs::TableFacts::tables))]
     fn read(&self, i: usize) -> Option<Record> {
         Record::try_from(*self.rows.get(i)?).ok()
     }
@@ -66,6 +68,7 @@ impl Log for Tray {
         TRAY_ROWS
     }
 
+    #[tactic(auto, using(crate::proofs::TableFacts::tables))]
     fn restart(&mut self, n: u32) {
         let survivors = (self.rows.len() - self.secured).min(n as usize);
         self.secured += survivors;

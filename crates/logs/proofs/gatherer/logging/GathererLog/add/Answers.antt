@@ -1,48 +1,13 @@
-use Rattle.std.proofs.Common.{◌≡◌, List, [], ◌∷◌, set, sym, refl, ap, ◌∙◌, arith, rules}
+use Rattle.std.proofs.Common.{◌≡◌, List, [], ◌∷◌, set, sym, ap, ◌∙◌, arith}
 use Rattle.logs.specs.Adding.{loose_after}
 use Rattle.logs.specs.Gathering.{fitted}
 use Rattle.records.specs.Recs.{Rec, model_of}
 use Rattle.logs.specs.Gathering.{first_of}
-use Rattle.logs.proofs.LogFacts.{loose-off, answer-on, answer-off}
 use Rattle.logs.proofs.GatherFacts.{first_of-none, first_of-set, first_of-all, first_of-length, fitted_none, fitted-length, fitted-more}
 use Rattle.logs.proofs.gatherer.logging.GathererLog.add.Goals as goal
 
-pub returns-then-spare-self : goal.returns-then-spare-self
-returns-then-spare-self g c =
-    let m = g.L.Log in
-    let t = c.args.self.now in
-    let b = t.below in
-    let hs = first_of t.holding t.held in
-    let w = g.L.Log.within b in
-    let e = first_of-length t.holding t.held (omega arith) in
-    let f = fitted-length (m.capacity b) (m.safe b) (m.loose b) hs w in
-    record {
-      capacity = refl;
-      safe = refl;
-      loose = loose-off (m.capacity b) (m.safe b) (fitted (m.capacity b) (m.safe b) (m.loose b) hs) (model_of c.args.record) (omega arith);
-      answer = answer-off (m.capacity b) (m.safe b) (fitted (m.capacity b) (m.safe b) (m.loose b) hs) c.capacity.result c.capacity.ensures (omega arith);
-      holding = search rules;
-    }
-
-pub returns-then-self-lt-HELD_RECORDS : goal.returns-then-self-lt-HELD_RECORDS
-returns-then-self-lt-HELD_RECORDS g c =
-    let m = g.L.Log in
-    let t = c.args.self.now in
-    let b = t.below in
-    let hs = first_of t.holding t.held in
-    let w = g.L.Log.within b in
-    let e = first_of-length t.holding t.held (omega arith) in
-    let f = fitted-length (m.capacity b) (m.safe b) (m.loose b) hs w in
-    record {
-      capacity = refl;
-      safe = refl;
-      loose = ap (fitted (m.capacity b) (m.safe b) (m.loose b)) (first_of-set t.held t.holding c.args.record (omega arith)) ∙ sym (fitted-more (m.capacity b) (m.safe b) (m.loose b) hs (model_of c.args.record) w);
-      answer = answer-on (m.capacity b) (m.safe b) (fitted (m.capacity b) (m.safe b) (m.loose b) hs) (omega arith);
-      holding = search rules;
-    }
-
-pub returns : goal.returns
-returns g c =
+pub returns-clause-loose : goal.returns-clause-loose
+returns-clause-loose g c =
     let m = g.L.Log in
     let t = c.args.self.now in
     let b = t.below in
@@ -64,4 +29,4 @@ returns g c =
     let q = c.pass_down.ensures.safe in
     let r : m.loose u ≡ fitted (m.capacity b) (m.safe b) (m.loose b) (first_of 8 t.held) = c.pass_down.ensures.loose ∙ ap (fitted (m.capacity b) (m.safe b) (m.loose b)) (sym (first_of-all 8 t.held t.long)) in
     let old : loose_after (m.capacity u) (m.safe u) (m.loose u) x ≡ loose_after (m.capacity b) (m.safe b) (fitted (m.capacity b) (m.safe b) (m.loose b) hs) x = cc in
-    record { capacity = p; safe = q; loose = new ∙ old; answer = answer-on (m.capacity b) (m.safe b) (fitted (m.capacity b) (m.safe b) (m.loose b) hs) (omega arith); holding = search rules }
+    new ∙ old

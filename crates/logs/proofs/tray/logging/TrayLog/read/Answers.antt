@@ -2,7 +2,6 @@ use Rattle.std.proofs.Common.{◌≡◌, ◌<◌, List, map, length, get_or, Som
 use lib.ListN.{length-map}
 use Rattle.std.proofs.lemmas.List.{get_or-map}
 use Rattle.arrayvec.specs.ArrayVec.{array_vec_len}
-use Rattle.std.specs.Option.{option_map}
 use Rattle.seats.specs.Exactly.{Exactly}
 use Rattle.records.specs.Recs.{model_of}
 use Rattle.records.specs.Rows.{row_means}
@@ -10,15 +9,8 @@ use Rattle.records.specs.declared.record.Record.{Record}
 use Rattle.records.specs.declared.row.Row.{Row}
 use Rattle.logs.specs.Rows.{blank_row}
 use Rattle.logs.proofs.LogFacts.{reads}
-use Rattle.logs.proofs.TableFacts.{read-in, read_past}
+use Rattle.logs.proofs.TableFacts.{read-in}
 use Rattle.logs.proofs.tray.logging.TrayLog.read.Goals as goal
-
-pub returns-in_err-get : goal.returns-in_err-get
-returns-in_err-get c =
-    let t = c.args.self.now in
-    let e = ap (λ (xs : List Row). length xs) c.deref.ensures.0 in
-    let past = c.in_err-get.ensures.lookup.3 in
-    ap (option_map model_of) c.from_residual.ensures ∙ read_past t.secured (array_vec_len t.rows) (map row_means t.rows.items) c.args.i (omega arith)
 
 pub returns : goal.returns
 returns c =
