@@ -14,6 +14,7 @@ use Rattle.records.proofs.RecordFacts.{rec_of_lem, length-bytes}
 use Rattle.records.specs.Bytes.{bytes_of, rec_of}
 use Rattle.records.specs.Recs.{Rec, model_of}
 use Rattle.records.specs.declared.record.Record.{Record}
+use Rattle.logs.proofs.TableFacts.{tables}
 use Rattle.journals.specs.Slots.{slot, rec_at, recs_in, MalformedAt, BytesSound}
 
 pub length-recs : (bs : List ℕ) → length (recs_in bs) ≡ length bs / 22
@@ -94,3 +95,6 @@ module _ (old : List ℕ) (n : ℕ) (r : Record) (fits : 22 * n + 22 ≤ length 
       let z : 0 + n ≡ n = omega arith in
       let e : rec_at bs (0 + n) ≡ model_of r = ap (rec_at bs) z ∙ ap rec_of at ∙ rec_of_lem r in
       a ∙ b ∙ ap₂ (λ (xs : List Rec) (x : Rec). xs ++ x ∷ []) (c ∙ sym d) e
+
+-- the goals that follow from these alone
+pub ruleset slots = (tables, length-recs, chunk_at, none-malformed)

@@ -29,6 +29,7 @@ impl Log for Journal {
     ghost atmost = { λ j n. smaller (length (loose_in j)) (n / record_length) };
 
     // Beyond what every log promises: it writes the 22 bytes of the record behind the last one, and no other.
+    #[tactic(auto, using(crate::proofs::SlotFacts::slots))]
     fn add(&mut self, record: Record) -> Result<(), Full>
         ensures capacity { room_in self.new ≡ room_in self.old }
         ensures safe { safe_in self.new ≡ safe_in self.old }
@@ -47,6 +48,7 @@ impl Log for Journal {
     }
 
     // Beyond what every log promises: it changes no byte.
+    #[tactic(auto, using(crate::proofs::SlotFacts::slots))]
     fn secure(&mut self)
         ensures capacity { room_in self.new ≡ room_in self.old }
         ensures safe { safe_in self.new ≡ safe_in self.old ++ loose_in self.old }
@@ -56,6 +58,7 @@ impl Log for Journal {
         self.secured = self.used;
     }
 
+    #[tactic(auto, using(crate::proofs::SlotFacts::slots))]
     fn read(&self, i: usize) -> Option<Record> {
         if i >= self.used {
             return None;
@@ -63,6 +66,7 @@ impl Log for Journal {
         record_at(&self.bytes, i)
     }
 
+    #[tactic(auto, using(crate::proofs::SlotFacts::slots))]
     fn count(&self) -> usize {
         self.used
     }
@@ -72,6 +76,7 @@ impl Log for Journal {
     }
 
     // Beyond what every log promises: it changes no byte.
+    #[tactic(auto, using(crate::proofs::SlotFacts::slots))]
     fn restart(&mut self, n: u32)
         ensures capacity { room_in self.new ≡ room_in self.old }
         ensures safe { safe_in self.new ≡ safe_in self.old ++ take (min (length (loose_in self.old)) (n / record_length)) (loose_in self.old) }

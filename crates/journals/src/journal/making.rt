@@ -8,6 +8,7 @@ use super::{Journal, Malformed};
 
 impl Journal {
     // A journal without records, over a buffer whose bytes stay as they are until a record is added.
+    #[tactic(auto, unfolding(logs::specs::Tables::safe_of, logs::specs::Tables::loose_of))]
     pub fn create(bytes: Vec<u8>) -> Journal
         ensures bytes { bytes_in result ≡ bytes.items }
         ensures capacity { room_in result ≡ vec_len bytes / record_length }
@@ -22,6 +23,7 @@ impl Journal {
     }
 
     // The journal of the first `count` records of a buffer, all safe, or the refusal that names a malformed one.
+    #[tactic(auto, using(logs::proofs::TableFacts::tables), unfolding(logs::specs::Tables::safe_of))]
     pub fn open(bytes: Vec<u8>, count: usize) -> Result<Journal, Malformed>
         ensures { OpenAnswer bytes.items count result }
     {
@@ -51,6 +53,7 @@ impl Journal {
 }
 
 // One of the first `count` records that is malformed, if any is.
+#[tactic(auto, using(crate::proofs::SlotFacts::slots))]
 fn malformed_in(bytes: &[u8], count: usize) -> Option<usize>
     ensures { MatchOption result ((record_length * count ≤ length bytes.now) × BytesSound bytes.now count) (λ i. (i < count) × MalformedAt bytes.now i) }
 {

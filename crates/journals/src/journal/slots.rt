@@ -7,6 +7,7 @@ use records::codec::{RECORD_BYTES, decode};
 use records::record::Record;
 
 // Record i of a buffer, or none where it is malformed or leaves the buffer.
+#[tactic(auto, using(crate::proofs::SlotFacts::slots))]
 pub(super) fn record_at(bytes: &[u8], i: usize) -> Option<Record>
     ensures { Exactly (λ r. slot bytes.now i ≡ bytes_of r) result }
 {
@@ -15,6 +16,7 @@ pub(super) fn record_at(bytes: &[u8], i: usize) -> Option<Record>
 }
 
 // Whether record i of a buffer is malformed or leaves the buffer.
+#[tactic(auto, using(crate::proofs::SlotFacts::slots))]
 pub(super) fn is_malformed(bytes: &[u8], i: usize) -> bool
     ensures { Decides result (MalformedAt bytes.now i) }
 {

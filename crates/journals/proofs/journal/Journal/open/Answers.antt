@@ -1,4 +1,4 @@
-use Rattle.std.proofs.Common.{◌≡◌, ℕ, ◌/◌, List, length, vec_items, vec_len, refl, ap, subst, arith}
+use Rattle.std.proofs.Common.{◌≡◌, ℕ, ◌/◌, List, vec_items, refl, ap, subst, arith}
 use Rattle.std.proofs.lemmas.List.{take-take}
 use Rattle.journals.specs.Slots.{recs_in, BytesSound}
 use Rattle.logs.specs.Tables.{safe_of}
@@ -8,13 +8,6 @@ use Rattle.journals.proofs.journal.Journal.open.Goals as goal
 -- what is sound in the slice that was lent is sound in the buffer
 sound : (bs lent : List ℕ) (n : ℕ) → lent ≡ bs → BytesSound lent n → BytesSound bs n
 sound bs lent n e h = subst (λ (x : List ℕ). BytesSound x n) e h
-
-pub invariant_of-result : goal.invariant_of-result
-invariant_of-result c =
-    let v = c.args.bytes.ok.0 in
-    let e : length c.deref.result.now ≡ vec_len c.args.bytes = c.deref.ensures.len in
-    let f = c.in-None.ensures.0 in
-    record { order = omega arith; fits = omega arith; sound = sound (vec_items c.args.bytes) c.deref.result.now c.args.count c.deref.ensures.value c.in-None.ensures.1 }
 
 pub returns-in-None : goal.returns-in-None
 unfolding safe_of

@@ -1,6 +1,6 @@
-use Rattle.std.proofs.Common.{◌≡◌, ℕ, ◌+◌, ◌*◌, ◌/◌, ◌<◌, ◌≤◌, ◌-◌, List, ◌++◌, length, take, drop, vec_len, sym, refl, ap, ◌∙◌, subst, arith}
+use Rattle.std.proofs.Common.{◌≡◌, ℕ, ◌+◌, ◌*◌, ◌<◌, ◌≤◌, ◌-◌, List, ◌++◌, length, take, drop, vec_len, sym, refl, ap, ◌∙◌, subst, arith}
 use borrow.Rule.Slice.PartMut.{put_mid}
-use Rattle.std.proofs.lemmas.Bool.{cond-true, cond-false, lt-ltb, le-ltb}
+use Rattle.std.proofs.lemmas.Bool.{cond-true, lt-ltb}
 use Rattle.std.proofs.lemmas.List.{take_at, length-append, length-take, length-drop}
 use Rattle.records.proofs.RecordFacts.{length-bytes}
 use Rattle.records.specs.Bytes.{bytes_of}
@@ -8,27 +8,10 @@ use Rattle.records.specs.Recs.{model_of}
 use Rattle.journals.specs.Journals.{bytes_in, safe_in, loose_in, room_in}
 use Rattle.journals.specs.Slots.{recs_in, BytesSound}
 use Rattle.logs.specs.Tables.{safe_of, loose_of}
-use Rattle.logs.proofs.LogFacts.{loose-on, loose-off, answer-on, answer-off}
+use Rattle.logs.proofs.LogFacts.{loose-on, answer-on}
 use Rattle.journals.proofs.SlotFacts.{length-recs, written-sound, written-recs}
 use Rattle.logs.proofs.TableFacts.{both, safe_of-add, loose_of-add}
 use Rattle.journals.proofs.journal.logging.JournalLog.add.Goals as goal
-
-pub returns-then-self-capacity : goal.returns-then-self-capacity
-returns-then-self-capacity c =
-    let j = c.args.self.now in
-    let rs = recs_in (bytes_in j) in
-    let room = room_in j in
-    let v = j.bytes.ok.0 in
-    let n = length-recs (bytes_in j) in
-    let e = both j.secured j.used rs (omega arith) in
-    let full : room ≤ length (safe_in j) + length (loose_in j) = omega (arith, c.len-capacity.ensures) in
-    record {
-      capacity = refl;
-      safe = refl;
-      loose = loose-off room (safe_in j) (loose_in j) (model_of c.args.record) full;
-      answer = answer-off room (safe_in j) (loose_in j) (c.len-capacity.result / 22) (ap (λ (x : ℕ). x / 22) c.len-capacity.ensures) full;
-      bytes = sym (cond-false _ _ _ (le-ltb _ _ full));
-    }
 
 -- a list keeps its length where 22 numbers are put in it
 stored : (items b : List ℕ) (at : ℕ) → at + 22 ≤ length items → length b ≡ 22 → length (put_mid at 22 items b) ≡ length items

@@ -7,11 +7,8 @@ use Rattle.journals.specs.Journals.{bytes_in}
 use Rattle.journals.specs.Slots.{slot, rec_at, recs_in}
 use Rattle.logs.proofs.LogFacts.{reads}
 use Rattle.journals.proofs.SlotFacts.{length-recs, recs-at}
-use Rattle.logs.proofs.TableFacts.{read-in, read_past}
+use Rattle.logs.proofs.TableFacts.{read-in}
 use Rattle.journals.proofs.journal.logging.JournalLog.read.Goals as goal
-
-pub returns-then-i-self : goal.returns-then-i-self
-returns-then-i-self c = let j = c.args.self.now in read_past j.secured j.used (recs_in (bytes_in j)) c.args.i (omega arith)
 
 pub returns : goal.returns
 returns c =
