@@ -97,4 +97,4 @@ module _ (old : List ℕ) (n : ℕ) (r : Record) (fits : 22 * n + 22 ≤ length 
       a ∙ b ∙ ap₂ (λ (xs : List Rec) (x : Rec). xs ++ x ∷ []) (c ∙ sym d) e
 
 -- the goals that follow from these alone
-pub ruleset slots = (tables, length-recs, chunk_at, none-malformed)
+pub ruleset slots = (tables, length-recs, chunk_at)

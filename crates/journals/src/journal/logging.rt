@@ -1,3 +1,5 @@
+#![tactic(auto, using(crate::proofs::SlotFacts::slots))]
+
 ghost use Rattle.std.specs.Prelude.{◌≡◌, ◌+◌, ◌*◌, ◌/◌, min, [], ◌++◌, length, take, if◌then◌else◌};
 ghost use borrow.Rule.Slice.PartMut.{put_mid};
 ghost use Rattle.records.specs.Bytes.{bytes_of};
@@ -29,7 +31,6 @@ impl Log for Journal {
     ghost atmost = { λ j n. smaller (length (loose_in j)) (n / record_length) };
 
     // Beyond what every log promises: it writes the 22 bytes of the record behind the last one, and no other.
-    #[tactic(auto, using(crate::proofs::SlotFacts::slots))]
     fn add(&mut self, record: Record) -> Result<(), Full>
         ensures capacity { room_in self.new ≡ room_in self.old }
         ensures safe { safe_in self.new ≡ safe_in self.old }
@@ -37,7 +38,7 @@ impl Log for Journal {
         ensures answer { result ≡ add_answer (room_in self.old) (safe_in self.old) (loose_in self.old) }
         ensures bytes { bytes_in self.new ≡ (if has_room (room_in self.old) (safe_in self.old) (loose_in self.old) then put_mid (record_length * (length (safe_in self.old) + length (loose_in self.old))) record_length (bytes_in self.old) (bytes_of «record») else bytes_in self.old) }
     {
-        let capacity = self.bytes.len() / RECORD_BYTES;
+        let capacity = self.capacity();
         if self.used >= capacity {
             return Err(Full { capacity });
         }
@@ -48,7 +49,6 @@ impl Log for Journal {
     }
 
     // Beyond what every log promises: it changes no byte.
-    #[tactic(auto, using(crate::proofs::SlotFacts::slots))]
     fn secure(&mut self)
         ensures capacity { room_in self.new ≡ room_in self.old }
         ensures safe { safe_in self.new ≡ safe_in self.old ++ loose_in self.old }
@@ -58,7 +58,6 @@ impl Log for Journal {
         self.secured = self.used;
     }
 
-    #[tactic(auto, using(crate::proofs::SlotFacts::slots))]
     fn read(&self, i: usize) -> Option<Record> {
         if i >= self.used {
             return None;
@@ -66,7 +65,6 @@ impl Log for Journal {
         record_at(&self.bytes, i)
     }
 
-    #[tactic(auto, using(crate::proofs::SlotFacts::slots))]
     fn count(&self) -> usize {
         self.used
     }
@@ -76,7 +74,6 @@ impl Log for Journal {
     }
 
     // Beyond what every log promises: it changes no byte.
-    #[tactic(auto, using(crate::proofs::SlotFacts::slots))]
     fn restart(&mut self, n: u32)
         ensures capacity { room_in self.new ≡ room_in self.old }
         ensures safe { safe_in self.new ≡ safe_in self.old ++ take (min (length (loose_in self.old)) (n / record_length)) (loose_in self.old) }

@@ -23,7 +23,6 @@ impl Journal {
     }
 
     // The journal of the first `count` records of a buffer, all safe, or the refusal that names a malformed one.
-    #[tactic(auto, using(logs::proofs::TableFacts::tables), unfolding(logs::specs::Tables::safe_of))]
     pub fn open(bytes: Vec<u8>, count: usize) -> Result<Journal, Malformed>
         ensures { OpenAnswer bytes.items count result }
     {
@@ -53,7 +52,6 @@ impl Journal {
 }
 
 // One of the first `count` records that is malformed, if any is.
-#[tactic(auto, using(crate::proofs::SlotFacts::slots))]
 fn malformed_in(bytes: &[u8], count: usize) -> Option<usize>
     ensures { MatchOption result ((record_length * count ≤ length bytes.now) × BytesSound bytes.now count) (λ i. (i < count) × MalformedAt bytes.now i) }
 {

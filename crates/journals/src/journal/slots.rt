@@ -16,7 +16,6 @@ pub(super) fn record_at(bytes: &[u8], i: usize) -> Option<Record>
 }
 
 // Whether record i of a buffer is malformed or leaves the buffer.
-#[tactic(auto, using(crate::proofs::SlotFacts::slots))]
 pub(super) fn is_malformed(bytes: &[u8], i: usize) -> bool
     ensures { Decides result (MalformedAt bytes.now i) }
 {

@@ -1,3 +1,5 @@
+#![tactic(auto, using(crate::proofs::GatherFacts::gathering), unfolding(crate::specs::Gathering::first_of))]
+
 ghost use Rattle.std.specs.Prelude.{◌≡◌, ◌+◌, ◌-◌, [], ◌++◌, map, length, take};
 ghost use Rattle.records.specs.Recs.{model_of};
 ghost use Rattle.logs.specs.Adding.{loose_after, add_answer};
@@ -24,7 +26,6 @@ impl<L: Log> Log for Gatherer<L> {
     ghost atmost = { λ g n. fitted-atmost (L.Log.survives g.below n) (L.Log.capacity g.below) (L.Log.safe g.below) (L.Log.loose g.below) (first_of g.holding g.held) (L.Log.atmost g.below n) };
 
     // Beyond what every log promises: how many records it holds afterwards.
-    #[tactic(auto, using(crate::proofs::GatherFacts::gathering))]
     fn add(&mut self, record: Record) -> Result<(), Full>
         ensures capacity { L.Log.capacity self.new.below ≡ L.Log.capacity self.old.below }
         ensures safe { L.Log.safe self.new.below ≡ L.Log.safe self.old.below }
@@ -49,7 +50,6 @@ impl<L: Log> Log for Gatherer<L> {
     }
 
     // Beyond what every log promises: it holds nothing afterwards.
-    #[tactic(auto, using(crate::proofs::GatherFacts::gathering), unfolding(crate::specs::Gathering::first_of))]
     fn secure(&mut self)
         ensures capacity { L.Log.capacity self.new.below ≡ L.Log.capacity self.old.below }
         ensures safe { L.Log.safe self.new.below ≡ L.Log.safe self.old.below ++ loose_in L.Log self.old }
@@ -70,7 +70,6 @@ impl<L: Log> Log for Gatherer<L> {
         self.held[..fitting].get(i - under).copied()
     }
 
-    #[tactic(auto, using(crate::proofs::GatherFacts::gathering))]
     fn count(&self) -> usize {
         self.capacity() - self.below.spare().saturating_sub(self.holding)
     }
@@ -80,7 +79,6 @@ impl<L: Log> Log for Gatherer<L> {
     }
 
     // Beyond what every log promises: it holds nothing afterwards.
-    #[tactic(auto, using(crate::proofs::GatherFacts::gathering), unfolding(crate::specs::Gathering::first_of))]
     fn restart(&mut self, n: u32)
         ensures capacity { L.Log.capacity self.new.below ≡ L.Log.capacity self.old.below }
         ensures safe { L.Log.safe self.new.below ≡ L.Log.safe self.old.below ++ take (L.Log.survives self.old.below n) (loose_in L.Log self.old) }
@@ -93,7 +91,6 @@ impl<L: Log> Log for Gatherer<L> {
 }
 
 // Adds records to a log, in order, as far as they fit.
-#[tactic(auto, using(crate::proofs::GatherFacts::gathering))]
 fn pass_down<L: Log>(below: &mut L, records: &[Record])
     ensures capacity { L.Log.capacity below.new ≡ L.Log.capacity below.old }
     ensures safe { L.Log.safe below.new ≡ L.Log.safe below.old }

@@ -1,3 +1,5 @@
+#![tactic(auto, using(crate::proofs::TableFacts::tables))]
+
 ghost use Rattle.std.specs.Prelude.{◌≡◌, min, [], map, length};
 ghost use Rattle.arrayvec.specs.ArrayVec.{array_vec_len};
 ghost use Rattle.logs.specs.Bounds.{table-within, smaller};
@@ -38,7 +40,6 @@ impl Log for Tray {
 
     ghost atmost = { λ t n. smaller (length (loose_in t)) n };
 
-    #[tactic(auto, using(crate::proofs::TableFacts::tables))]
     fn add(&mut self, record: Record) -> Result<(), Full> {
         if self.rows.is_full() {
             return Err(Full {
@@ -49,17 +50,14 @@ impl Log for Tray {
         Ok(())
     }
 
-    #[tactic(auto, using(crate::proofs::TableFacts::tables))]
     fn secure(&mut self) {
         self.secured = self.rows.len();
     }
 
-    #[tactic(auto, using(crate::proofs::TableFacts::tables))]
     fn read(&self, i: usize) -> Option<Record> {
         Record::try_from(*self.rows.get(i)?).ok()
     }
 
-    #[tactic(auto, using(crate::proofs::TableFacts::tables))]
     fn count(&self) -> usize {
         self.rows.len()
     }
@@ -68,7 +66,6 @@ impl Log for Tray {
         TRAY_ROWS
     }
 
-    #[tactic(auto, using(crate::proofs::TableFacts::tables))]
     fn restart(&mut self, n: u32) {
         let survivors = (self.rows.len() - self.secured).min(n as usize);
         self.secured += survivors;

@@ -29,7 +29,7 @@ invariant_of-self c =
     let bs = bytes_in j in
     let v = j.bytes.ok.0 in
     let at = 22 * j.used in
-    let fits : at + 22 ≤ length bs = omega (arith, c.len-capacity.ensures) in
+    let fits : at + 22 ≤ length bs = omega (arith, c.capacity-capacity.ensures) in
     let is = filled bs (bytes_of r) c.deref_mut.result.now c.copy_from_slice.new.self at (at + 22 - at) (vec_len j.bytes)
     c.deref_mut.ensures.value (c.copy_from_slice.ensures.after ∙ c.encode.ensures) (omega arith) (sym v) (length-bytes r) (omega arith) in
     record { order = omega arith; fits = omega arith; sound = subst (λ (x : List ℕ). BytesSound x (j.used + 1)) (sym is) (written-sound bs j.used r fits j.sound) }
@@ -46,12 +46,12 @@ returns c =
     let n = length-recs bs in
     let at = 22 * j.used in
     let new = put_mid at 22 bs (bytes_of r) in
-    let fits : at + 22 ≤ length bs = omega (arith, c.len-capacity.ensures) in
+    let fits : at + 22 ≤ length bs = omega (arith, c.capacity-capacity.ensures) in
     let is = filled bs (bytes_of r) c.deref_mut.result.now c.copy_from_slice.new.self at (at + 22 - at) (vec_len j.bytes)
     c.deref_mut.ensures.value (c.copy_from_slice.ensures.after ∙ c.encode.ensures) (omega arith) (sym v) (length-bytes r) (omega arith) in
     let grown = written-recs bs j.used r fits in
     let e : length (safe_in j) + length (loose_in j) ≡ j.used = both j.secured j.used rs (omega arith) in
-    let on : length (safe_in j) + length (loose_in j) < room = omega (arith, c.len-capacity.ensures) in
+    let on : length (safe_in j) + length (loose_in j) < room = omega (arith, c.capacity-capacity.ensures) in
     record {
       capacity = refl;
       safe = ap (λ (x : List ℕ). safe_of j.secured (j.used + 1) (recs_in x)) is ∙ safe_of-add j.secured j.used rs (recs_in new) m grown (omega arith) (omega arith);
