@@ -10,10 +10,8 @@ use std::test::Fail;
 fn seven(tail: &[u8]) -> [u8; RECORD_BYTES] {
     let mut bytes = [0u8; RECORD_BYTES];
     bytes[3] = 7;
-    for (i, b) in tail.iter().enumerate() {
-        if i + 4 < RECORD_BYTES {
-            bytes[i + 4] = *b;
-        }
+    for (place, b) in bytes[4..].iter_mut().zip(tail) {
+        *place = *b;
     }
     bytes
 }
@@ -25,10 +23,7 @@ fn malformed(tail: &[u8]) -> bool {
 
 // A seat whose number is below 16.
 pub(crate) fn seat(number: u8) -> Result<Seat, Fail> {
-    match Seat::new(number) {
-        Some(seat) => Ok(seat),
-        None => Err(Fail::new("no such seat")),
-    }
+    Seat::new(number).ok_or_else(|| Fail::new("no such seat"))
 }
 
 #[test]
@@ -128,56 +123,21 @@ fn only_whole_records_are_read(rt: HostRuntime) {
     assert!(rt; decode(&seven(&[1, 0])).is_some());
 }
 
+// Whether a row of transaction 1 is a record's.
+fn is_read(kind: u8, seats: u16) -> bool {
+    let row = Row {
+        transaction: 1,
+        kind,
+        seats,
+    };
+    row.record().is_some()
+}
+
 #[test]
 fn rows_are_read_back_with_a_check(rt: HostRuntime) {
-    assert!(rt;
-        Row {
-            transaction: 1,
-            kind: 0,
-            seats: 1,
-        }
-        .record()
-        .is_none(),
-        "kind 0"
-    );
-    assert!(rt;
-        Row {
-            transaction: 1,
-            kind: 5,
-            seats: 1,
-        }
-        .record()
-        .is_none(),
-        "kind 5"
-    );
-    assert!(rt;
-        Row {
-            transaction: 1,
-            kind: 2,
-            seats: 0,
-        }
-        .record()
-        .is_none(),
-        "a Vote with no seat"
-    );
-    assert!(rt;
-        Row {
-            transaction: 1,
-            kind: 3,
-            seats: 3,
-        }
-        .record()
-        .is_none(),
-        "a Kept with two seats"
-    );
-    assert!(rt;
-        Row {
-            transaction: 1,
-            kind: 1,
-            seats: 0,
-        }
-        .record()
-        .is_some(),
-        "a Decision with no seat"
-    );
+    assert!(rt; !is_read(0, 1), "kind 0");
+    assert!(rt; !is_read(5, 1), "kind 5");
+    assert!(rt; !is_read(2, 0), "a Vote with no seat");
+    assert!(rt; !is_read(3, 3), "a Kept with two seats");
+    assert!(rt; is_read(1, 0), "a Decision with no seat");
 }

@@ -1,6 +1,7 @@
 // Journals and trays: capacities, refusals and what a restart keeps.
 use crate::bytes::seat;
 use journals::journal::Journal;
+use logs::listing::Records;
 use logs::log::{Full, Log};
 use logs::tray::Tray;
 use records::codec::{RECORD_BYTES, example};
@@ -79,15 +80,11 @@ fn opening_checks_each_record(rt: HostRuntime) -> Result<(), Fail> {
     let mut bytes = vec![in rt.alloc(); 0; 44]?;
     assert!(rt; bytes.len() == 44);
     bytes[0..RECORD_BYTES].copy_from_slice(&example());
-    let opened = match Journal::open(bytes, 1) {
-        Ok(opened) => opened,
-        Err(refusal) => return Err(Fail::new(refusal.record)),
-    };
+    let opened = Journal::open(bytes, 1).map_err(Fail::new)?;
     assert_eq!(rt; opened.count(), 1);
     assert_eq!(rt; opened.spare(), 1);
-    let refusal = match Journal::open(opened.into_bytes(), 2) {
-        Ok(_) => return Err(Fail::new("the second record is malformed")),
-        Err(refusal) => refusal,
+    let Err(refusal) = Journal::open(opened.into_bytes(), 2) else {
+        return Err(Fail::new("the second record is malformed"));
     };
     assert_eq!(rt; refusal.record, 1);
     assert!(rt; refusal.bytes.as_slice().starts_with(&example()));
@@ -100,13 +97,38 @@ fn a_count_past_the_buffer_is_refused(rt: HostRuntime) -> Result<(), Fail> {
     let mut bytes = vec![in rt.alloc(); 0; 43]?;
     assert!(rt; bytes.len() == 43);
     bytes[0..RECORD_BYTES].copy_from_slice(&example());
-    match Journal::open(bytes, usize::MAX) {
-        Ok(_) => Err(Fail::new("so many records do not fit")),
-        Err(refusal) => {
-            assert_eq!(rt; refusal.record, 1);
-            Ok(())
-        },
+    let Err(refusal) = Journal::open(bytes, usize::MAX) else {
+        return Err(Fail::new("so many records do not fit"));
+    };
+    assert_eq!(rt; refusal.record, 1);
+    Ok(())
+}
+
+#[test]
+fn refusals_say_what_is_wrong(rt: HostRuntime) -> Result<(), Fail> {
+    let full = Full { capacity: 32 }.to_string(rt.alloc())?;
+    assert!(rt; full.as_str() == "the log is full: its capacity is 32");
+    let Err(refusal) = Journal::open(vec![in rt.alloc(); 0; 22]?, 1) else {
+        return Err(Fail::new("kind 0"));
+    };
+    let refused = refusal.to_string(rt.alloc())?;
+    assert!(rt; refused.as_str() == "record 0 is malformed or leaves the buffer");
+    Ok(())
+}
+
+#[test]
+fn the_records_of_a_log_come_in_order(rt: HostRuntime) -> Result<(), Fail> {
+    let mut tray = Tray::new();
+    fill(&mut tray, 2)?;
+    tray.secure();
+    let _ = tray.add(vote(2)?);
+    let mut records = Records::over(&tray);
+    for t in 0..3 {
+        assert_eq!(rt; records.next(), Some(vote(t)?));
     }
+    assert!(rt; records.next().is_none());
+    assert!(rt; records.next().is_none());
+    Ok(())
 }
 
 #[test]
