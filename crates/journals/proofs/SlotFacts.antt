@@ -96,5 +96,5 @@ module _ (old : List ℕ) (n : ℕ) (r : Record) (fits : 22 * n + 22 ≤ length 
       let e : rec_at bs (0 + n) ≡ model_of r = ap (rec_at bs) z ∙ ap rec_of at ∙ rec_of_lem r in
       a ∙ b ∙ ap₂ (λ (xs : List Rec) (x : Rec). xs ++ x ∷ []) (c ∙ sym d) e
 
--- the goals that follow from these alone
+-- what the check is to try at the goals on journals
 pub ruleset slots = (tables, length-recs, chunk_at)

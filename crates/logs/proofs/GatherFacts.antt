@@ -99,5 +99,5 @@ pub kept-part : (cap k : ℕ) (s l xs : List Rec) → k ≤ length l → take k 
 unfolding fitted
 kept-part cap k s l xs h = sym (take-append-le k l (take (cap - (length s + length l)) xs) h)
 
--- the goals that follow from these alone
+-- what the check is to try at the goals on held records
 pub ruleset gathering = (first_of-none, first_of-more, first_of-set, first_of-all, first_of-length, fitted_none, fitted-length, fitted-more, kept-part)

@@ -36,6 +36,7 @@ pub safe_of-all : (a b : ℕ) (xs : List Rec) → safe_of b b xs ≡ safe_of a b
 unfolding safe_of
 safe_of-all a b xs = take-take b b xs (omega arith) ∙ sym (joined a b xs)
 
+-- the same from right to left, as the tactics read it
 pub all-safe_of : (a b : ℕ) (xs : List Rec) → safe_of a b xs ++ loose_of a b xs ≡ safe_of b b xs
 all-safe_of a b xs = sym (safe_of-all a b xs)
 
@@ -73,8 +74,9 @@ safe_of-part a b k xs h =
     ∙ take-take (a + k) b m h in
     take-take (a + k) (a + k) m (omega arith) ∙ sym whole
 
+-- the same from right to left
 pub part-safe_of : (a b k : ℕ) (xs : List Rec) → a + k ≤ b → safe_of a b xs ++ take k (loose_of a b xs) ≡ safe_of (a + k) (a + k) xs
 part-safe_of a b k xs h = sym (safe_of-part a b k xs h)
 
--- the goals that follow from these alone
+-- what the check is to try at the goals on tables
 pub ruleset tables = (both, all-safe_of, part-safe_of, safe_of-kept, loose_of-none, loose_of-length, read-in, read_past, length-map)
