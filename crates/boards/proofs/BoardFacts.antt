@@ -12,10 +12,11 @@ use Rattle.words.specs.Notes.{note_of, note_in, row_of, cell_of}
 use Rattle.words.proofs.NoteFacts.{note-back}
 use Rattle.lines.specs.Ring.{first, turned}
 use Rattle.boards.specs.Boards.{blank_row, filled, skip, leading, past, moved_on}
+use Rattle.lines.specs.Kept.{in-there}
 use Rattle.lines.specs.Lines.{In, Within, there, notes_in}
 use Rattle.lines.proofs.RingFacts.{length-turned}
 use Rattle.lines.proofs.MemberFacts.{in_left, in_right, in-cases, notes_in-append}
-use Rattle.lines.proofs.TakeFacts.{in-there, in-there-here, there-cases, in-first, waited-in}
+use Rattle.lines.proofs.TakeFacts.{in-there-here, there-cases, in-first, waited-in}
 
 pub within-set : (b : List Row) (i : ℕ) (n : Note) → Some n ≡ note_in (row_of n) → Within (notes_in (set b i (row_of n))) (notes_in b ++ n ∷ [])
 unfolding Within
@@ -115,5 +116,5 @@ pub board-still : (b : List Row) (h : ℕ) → None ≡ position filled (turned 
 board-still b h e = ap (λ o. past o h (leading (turned b h))) (board-none b h e)
 
 -- a post, in the words of the code
-pub posted-within : (b : List Row) (i : ℕ) (w : Row) (n : Notification) → i ≡ cell_of (note_of n) → w ≡ row_of (note_of n) → Within (notes_in (set b i w)) (notes_in b ++ note_of n ∷ [])
-posted-within b i w n e f = subst (λ (v : Row). Within (notes_in (set b i v)) (notes_in b ++ note_of n ∷ [])) (sym f) (within-set b i (note_of n) (note-back n))
+pub board-posted : (b : List Row) (i : ℕ) (w : Row) (n : Notification) → i ≡ cell_of (note_of n) → w ≡ row_of (note_of n) → Within (notes_in (set b i w)) (notes_in b ++ note_of n ∷ [])
+board-posted b i w n e f = subst (λ (v : Row). Within (notes_in (set b i v)) (notes_in b ++ note_of n ∷ [])) (sym f) (within-set b i (note_of n) (note-back n))

@@ -115,13 +115,6 @@ module _ {A : Type 0} where
       let e : ltb (length (ring b h n)) (length b) ≡ false = le-ltb _ _ (omega (arith, length-any b h n)) in
       sym (ap (λ t. cond t (ring b h n ++ x ∷ []) (ring b h n)) e)
 
-  pub any_none : (b : List A) (h n m : ℕ) → m ≡ length (ring b h n) → m ≡ 0 → ring b h n ≡ []
-  any_none b h n m e z = go (ring b h n) (sym e ∙ z)
-    where
-      go : (xs : List A) → length xs ≡ 0 → xs ≡ []
-      go [] k = refl
-      go (y ∷ ys) k = absurd (omega arith)
-
   -- no more than the buffer holds
   pub ring_cut : (b : List A) (h n m : ℕ) → m ≡ length (ring b h n) → ring b h n ≡ ring b h m
   ring_cut b h n m e =

@@ -6,16 +6,12 @@ use Rattle.words.specs.Notes.{Note}
 use Rattle.words.specs.declared.notification.Notification.{Notification}
 use Rattle.words.specs.Notes.{note_of, note_in, row_of}
 use Rattle.lines.specs.Ring.{first, rest, pushed}
+use Rattle.lines.specs.Kept.{in-there}
 use Rattle.lines.specs.Lines.{In, Within, there, notes_in}
-use Rattle.lines.specs.Queues.{offered}
 use Rattle.words.proofs.NoteFacts.{note-back}
 use Rattle.lines.proofs.MemberFacts.{within-eq, within-left, notes_in-append}
 
 module _ {A : Type 0} where
-  pub in-there : (y : A) (o : Option A) (xs : List A) → In y xs → In y (there o xs)
-  in-there y None xs h = h
-  in-there y (Some x) xs h = inr h
-
   pub in-there-here : (y : A) (o : Option A) (xs : List A) → Some y ≡ o → In y (there o xs)
   in-there-here y None xs e = let z : ◌≡◌ {A = ℕ} 0 1 = cc in absurd (omega arith)
   in-there-here y (Some x) xs e = inl (cc)
@@ -46,10 +42,6 @@ within-rest (x ∷ xs) y h = in-there y (note_in x) (notes_in xs) h
 pub waited-in : (o : Option Notification) (xs : List Note) → ((n : Note) → Some n ≡ option_map note_of o → In n xs) → IfSome o (λ n. In (note_of n) xs)
 waited-in None xs h = tt
 waited-in (Some n) xs h = h (note_of n) refl
-
-pub waited-offered : (o : Option Notification) (xs : List Row) → option_map note_of o ≡ offered (first xs) → IfSome o (λ n. In (note_of n) (notes_in xs))
-waited-offered o [] e = waited-in o [] (λ n q. let z : Some n ≡ None = q ∙ e in let y : ◌≡◌ {A = ℕ} 0 1 = cc in absurd (omega arith))
-waited-offered o (x ∷ xs) e = waited-in o (notes_in (x ∷ xs)) (λ n q. in-there-here n (note_in x) (notes_in xs) (q ∙ e))
 
 -- the same of a queue after a post and a take
 pub posted-within : (k : ℕ) (xs rs : List Row) (n : Notification) (w : Row) → rs ≡ pushed k xs w → w ≡ row_of (note_of n) → Within (notes_in rs) (notes_in xs ++ note_of n ∷ [])

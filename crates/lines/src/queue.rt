@@ -3,6 +3,7 @@ ghost use Rattle.lines.specs.Queues.{held, posted, room, start_at};
 ghost use Rattle.lines.specs.Ring.{first, rest, pushed};
 
 // A queue over a lent buffer: the oldest comes first, and what is posted while the buffer is full is dropped. Every post is counted.
+// It is a ring of its own, since it takes no heap and its caller says at run time how many places it has.
 // Its meaning takes any numbers: a head past the end stands at the start, and no more is held than the buffer has places.
 // That is no invariant here: the checker refuses a struct with one that holds a `&mut` where it is passed by value and then changed.
 #[derive(Drop)]
