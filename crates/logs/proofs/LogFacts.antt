@@ -1,5 +1,5 @@
 -- Adding and reading, for any log.
-use Rattle.std.proofs.Common.{◌≡◌, ℕ, ◌+◌, ◌<◌, ◌≤◌, List, [], ◌∷◌, ◌++◌, length, Some, None, Ok, Err, Option, sym, ap, ◌∙◌}
+use Rattle.std.proofs.Common.{◌≡◌, ℕ, ◌+◌, ◌<◌, ◌≤◌, List, [], ◌∷◌, ◌++◌, length, Some, None, Ok, Option, sym, ap}
 use Rattle.std.proofs.lemmas.Bool.{cond-true, cond-false, lt-ltb, le-ltb}
 use Rattle.std.specs.Option.{option_map}
 use Rattle.seats.proofs.ExactFacts.{exactly-has, exactly-never}
@@ -17,9 +17,6 @@ module _ (most : ℕ) (safe loose : List Rec) where
 
   pub answer-on : length safe + length loose < most → Ok tt ≡ add_answer most safe loose
   answer-on h = sym (cond-true _ _ _ (lt-ltb _ _ h))
-
-  pub answer-off : (n : ℕ) → n ≡ most → most ≤ length safe + length loose → Err (record { capacity = n }) ≡ add_answer most safe loose
-  answer-off n e h = ap (λ (m : ℕ). Err (record { capacity = m })) e ∙ sym (cond-false _ _ _ (le-ltb _ _ h))
 
 -- an exact reading of something that some record has answers that record
 pub reads : (P : Record → Type 0) (w : Rec) (o : Option Record) → Exactly P o → ((r : Record) → P r → model_of r ≡ w) → (((r : Record) → P r → ⊥) → ⊥) → option_map model_of o ≡ Some w
