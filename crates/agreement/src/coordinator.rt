@@ -67,7 +67,7 @@ impl From<State> for u8 {
 }
 
 impl State {
-    // Its name.
+    // Its name. No derive of the library's writes names.
     pub fn name(self) -> &'static str
         ensures { result.now ≡ state_name self }
     {

@@ -10,6 +10,7 @@ pub const CELLS: usize = 32;
 // A cell whose row is no notification's is empty.
 #[derive(Drop)]
 pub struct Board {
+    // an array: there is exactly a cell for each seat and direction
     cells: [Row; CELLS],
     // the cell after the one that was given last
     next: usize,

@@ -15,9 +15,7 @@ pub(crate) trait Play {
 
 // Plays every line of standard input.
 pub(crate) fn play_all<P: Play>(rt: &HostRuntime, game: &mut P) -> Result<(), Refusal<'static>> {
-    let mut number = 0u64;
-    for line in rt.lines(rt.alloc()) {
-        number = number.saturating_add(1);
+    for (number, line) in (1u64..).zip(rt.lines(rt.alloc())) {
         let line = line?;
         match game.read(line.as_str()) {
             Ok(Some(step)) => game.take(rt, step)?,

@@ -29,7 +29,7 @@ const OUTBOX: [Row; 2] = [
     },
 ];
 
-// A seat whose number is below 16.
+// A seat whose number is below 16. Each crate of examples has its own: they share no library.
 fn seat(number: u8) -> Result<Seat, Fail> {
     Seat::new(number).ok_or_else(|| Fail::new("no such seat"))
 }

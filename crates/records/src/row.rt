@@ -9,7 +9,7 @@ use seats::set::SeatSet;
 use std::error::Error;
 use std::fmt;
 
-// A record as a plain row of numbers, which any numbers may fill: it is read back with a check.
+// A record as a plain row of numbers, which any numbers may fill, so its kind is a number: it is read back with a check.
 #[derive(Clone, Copy, PartialEq, Eq, Debug, Default)]
 pub struct Row {
     pub transaction: u32,

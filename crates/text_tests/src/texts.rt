@@ -7,7 +7,7 @@ use std::test::Fail;
 use wording::call::{Command, parse};
 use wording::text::Hex;
 
-// A seat whose number is below 16.
+// A seat whose number is below 16. Each crate of examples has its own: they share no library.
 fn seat(number: u8) -> Result<Seat, Fail> {
     Seat::new(number).ok_or_else(|| Fail::new("no such seat"))
 }

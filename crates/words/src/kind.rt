@@ -30,7 +30,7 @@ impl Kind {
         }
     }
 
-    // Its name.
+    // Its name. No derive of the library's writes names.
     pub fn name(self) -> &'static str
         ensures { result.now ≡ kind_name self }
     {

@@ -9,7 +9,7 @@ use seats::seat::Seat;
 use std::error::Error;
 use std::fmt;
 
-// A notification as a plain row of numbers, which any numbers may fill: outboxes and lines hold these, and read them back with a check.
+// A notification as a plain row of numbers, which any numbers may fill, so its seat and kind are numbers: outboxes and lines hold these, and read them back with a check.
 #[derive(Clone, Copy, PartialEq, Eq, Debug, Default)]
 pub struct Row {
     pub transaction: u32,

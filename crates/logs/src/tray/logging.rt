@@ -66,6 +66,7 @@ impl Log for Tray {
         TRAY_ROWS
     }
 
+    // Not shared with a journal's: n counts records here and bytes there, and a journal cuts no rows off.
     fn restart(&mut self, n: u32) {
         let survivors = (self.rows.len() - self.secured).min(n as usize);
         self.secured += survivors;

@@ -28,7 +28,7 @@ impl Entry {
         }
     }
 
-    // The name of its kind.
+    // The name of its kind. No derive of the library's writes names.
     pub fn name(self) -> &'static str
         ensures { result.now ≡ kind_text self }
     {

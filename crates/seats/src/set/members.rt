@@ -25,7 +25,7 @@ impl SeatSet {
         SeatSet { bits: bit(seat) }
     }
 
-    // The set whose bits these are.
+    // The set whose bits these are. `from_bits` and `bits` are what `from_bits` and `to_bits` are of the library's floats.
     pub fn from_bits(bits: u16) -> SeatSet
         ensures { result.bits ≡ bits }
     {
@@ -83,6 +83,7 @@ impl SeatSet {
     fn lowest(self) -> Option<Seat>
         ensures { (s : Seat) → self.bits ≡ 2 ^ s.value → result ≡ Some s }
     {
+        // the cast is proved to lose nothing; `try_from` would answer an error that never comes
         Seat::new(self.bits.trailing_zeros() as u8)
     }
 
@@ -103,6 +104,7 @@ impl fmt::Display for SeatSet {
     ghost output = { λ seats. Some (seat_text seats.bits) };
 
     fn fmt<W: fmt::Write>(&self, f: &mut fmt::Formatter<W>) -> fmt::Result {
+        // by number: bits have no items to go over
         for number in 0..SEATS {
             if self.has_number(number) {
                 write!(f, " {number}")?;
