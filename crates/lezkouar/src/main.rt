@@ -37,7 +37,9 @@ fn run<'a>(rt: &HostRuntime, words: &'a [String]) -> Result<(), Refusal<'a>> {
             inspect(rt, file, count)
         }
         Command::Queue { places } => {
-            let places = places.parse::<usize>().map_err(|_| Refusal::Places(places))?;
+            let places = places
+                .parse::<usize>()
+                .map_err(|_| Refusal::Places(places))?;
             play_queue(rt, places)
         }
         Command::Board => play_board(rt),

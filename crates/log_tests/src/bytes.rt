@@ -21,7 +21,7 @@ fn malformed(tail: &[u8]) -> bool {
     decode(&seven(tail)).is_none()
 }
 
-// A seat whose number is below 16.
+// A seat whose number is below 16. Each crate of examples has its own: they share no library.
 pub(crate) fn seat(number: u8) -> Result<Seat, Fail> {
     Seat::new(number).ok_or_else(|| Fail::new("no such seat"))
 }

@@ -56,10 +56,12 @@ fn asked(heap: Global, words: &[&str]) -> Result<&'static str, AllocError> {
     Ok(match parse(&texts) {
         Some(Command::Demonstrate) => "demonstrate",
         Some(Command::Help) => "help",
-        Some(Command::Journal {
-            file: "f",
-            count: "3",
-        }) => "journal",
+        Some(
+            Command::Journal {
+                file: "f",
+                count: "3",
+            },
+        ) => "journal",
         Some(Command::Journal { .. }) => "another journal",
         Some(Command::Queue { places: "3" }) => "queue",
         Some(Command::Queue { .. }) => "another queue",
