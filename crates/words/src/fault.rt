@@ -98,10 +98,7 @@ impl<S: Copy + fmt::Display> fmt::Display for Fault<S> {
         let text = self.text();
         write!(f, "fault {number}, {text}")?;
         match *self {
-            Fault::InvalidPeer { seat, state, .. } => {
-                let seat = seat.number();
-                write!(f, " (seat {seat}, in {state})")
-            }
+            Fault::InvalidPeer { seat, state, .. } => write!(f, " (seat {seat}, in {state})"),
             Fault::LogFull { full, .. } => write!(f, " (capacity {})", full.capacity),
             Fault::NoPlace { spare, .. } => write!(f, " ({spare} left)"),
             Fault::Malformed { record } => write!(f, " (record {record})"),

@@ -17,9 +17,11 @@ impl fmt::Display for Notification {
     ghost output = { λ n. Some (note_text (note_of n)) };
 
     fn fmt<W: fmt::Write>(&self, f: &mut fmt::Formatter<W>) -> fmt::Result {
-        let transaction = self.transaction;
-        let seat = self.seat.number();
-        let kind = self.kind;
+        let Notification {
+            transaction,
+            seat,
+            kind,
+        } = *self;
         write!(f, "transaction {transaction}, seat {seat}, {kind}")
     }
 }
