@@ -71,8 +71,8 @@ impl<'a, T: Copy> Queue<'a, T> {
         self.posts = self.posts.wrapping_add(1);
         if self.len < self.buffer.len() {
             let head = self.start();
-            // a test in place of a remainder, which would divide at each push
             let left = self.buffer.len() - head;
+            // a test and no remainder, which would divide at each push
             let at = if self.len < left {
                 head + self.len
             } else {

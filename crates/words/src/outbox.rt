@@ -13,6 +13,7 @@ pub fn lay(outbox: &mut [Row], notifications: &[Notification]) -> Option<usize>
     if notifications.len() > outbox.len() {
         return None;
     }
+    // the outbox by index: nothing would be known of what a zip with its iter_mut writes
     for (i, notification) in notifications.iter().enumerate() {
         outbox[i] = Row::from(*notification);
     }
