@@ -71,7 +71,7 @@ fn every_kind_reads_back(rt: HostRuntime) -> Result<(), Fail> {
     ];
     for record in all {
         assert_eq!(rt; decode(&encode(&record)), Some(record));
-        assert_eq!(rt; Row::of(&record).record(), Some(record));
+        assert_eq!(rt; Record::try_from(Row::from(&record)), Ok(record));
     }
     Ok(())
 }
@@ -130,7 +130,7 @@ fn is_read(kind: u8, seats: u16) -> bool {
         kind,
         seats,
     };
-    row.record().is_some()
+    Record::try_from(row).is_ok()
 }
 
 #[test]
