@@ -50,6 +50,7 @@ impl<N: Counted> Play for Carrying<N> {
     }
 
     fn take(&mut self, rt: &HostRuntime, step: Step) -> Result<(), Refusal<'static>> {
+        // a match: two calls with other arguments
         match step {
             Step::Post(notification) => {
                 let what = if self.line.is_full() {

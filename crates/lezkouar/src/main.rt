@@ -27,7 +27,7 @@ fn words_of_call(rt: &HostRuntime) -> Result<Vec<String>, Refusal<'static>> {
     Ok(words)
 }
 
-// Does what the words of the call ask for.
+// Does what the words of the call ask for: a match, since each command is another call.
 fn run<'a>(rt: &HostRuntime, words: &'a [String]) -> Result<(), Refusal<'a>> {
     match parse(words).ok_or(Refusal::Unknown)? {
         Command::Demonstrate => demonstrate(rt),

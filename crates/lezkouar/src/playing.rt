@@ -17,10 +17,11 @@ pub(crate) trait Play {
 pub(crate) fn play_all<P: Play>(rt: &HostRuntime, game: &mut P) -> Result<(), Refusal<'static>> {
     for (number, line) in (1u64..).zip(rt.lines(rt.alloc())) {
         let line = line?;
-        match game.read(line.as_str()) {
-            Ok(Some(step)) => game.take(rt, step)?,
-            Ok(None) => {}
-            Err(slip) => return Err(Refusal::Line { number, slip }),
+        let step = game
+            .read(line.as_str())
+            .map_err(|slip| Refusal::Line { number, slip })?;
+        if let Some(step) = step {
+            game.take(rt, step)?;
         }
     }
     Ok(())

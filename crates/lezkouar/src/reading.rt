@@ -10,12 +10,8 @@ pub(crate) fn read_notification(
     seat: &str,
     kind: &str,
 ) -> Result<Notification, Slip> {
-    let Ok(transaction) = transaction.parse::<u32>() else {
-        return Err(Slip::Transaction);
-    };
-    let Ok(number) = seat.parse::<u8>() else {
-        return Err(Slip::Seat);
-    };
+    let transaction = transaction.parse::<u32>().map_err(|_| Slip::Transaction)?;
+    let number = seat.parse::<u8>().map_err(|_| Slip::Seat)?;
     Ok(Notification {
         transaction,
         seat: Seat::new(number).ok_or(Slip::Seat)?,

@@ -1,5 +1,6 @@
 // Why the program did not do what was asked, or not to its end.
-use std::alloc::{AllocError, AllocFailed};
+use agreement::participant::UnknownBallot;
+use std::alloc::AllocError;
 use std::io;
 use thiserror::Error;
 use wording::call::USAGE;
@@ -21,8 +22,8 @@ pub(crate) enum Slip {
     Seat,
     #[error("a kind is Prepare, Commit, Rollback, Prepared, ReadOnly, Aborted or Committed")]
     Kind,
-    #[error("a vote is prepared, readonly or aborted")]
-    Ballot,
+    #[error("{0}")]
+    Ballot(UnknownBallot),
     #[error("cut takes a number from 0 to 4294967295")]
     Cut,
     #[error("outbox takes a number of places from 0 to 16")]
@@ -48,14 +49,8 @@ pub(crate) enum Refusal<'a> {
     Malformed { file: &'a str, record: usize },
     #[error("line {number}: {slip}")]
     Line { number: u64, slip: Slip },
-    #[error("{0}")]
-    Memory(#[from] AllocError),
-    #[error("{0}")]
+    #[error(transparent)]
+    Memory(#[from(alloc)] AllocError),
+    #[error(transparent)]
     System(#[from] io::Error),
-}
-
-impl<'a, T: Drop> From<AllocFailed<T>> for Refusal<'a> {
-    fn from(why: AllocFailed<T>) -> Refusal<'a> {
-        Refusal::Memory(AllocError::from(why))
-    }
 }

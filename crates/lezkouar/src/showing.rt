@@ -51,18 +51,11 @@ pub(crate) fn inspect<'a>(
     file: &'a str,
     count: usize,
 ) -> Result<(), Refusal<'a>> {
-    let bytes = match fs::read(rt, file) {
-        Ok(bytes) => bytes,
-        Err(why) => return Err(Refusal::Unread { file, why }),
-    };
-    match Journal::open(bytes, count) {
-        Ok(journal) => {
-            print_records(rt, &journal)?;
-            Ok(())
-        }
-        Err(refusal) => Err(Refusal::Malformed {
-            file,
-            record: refusal.record,
-        }),
-    }
+    let bytes = fs::read(rt, file).map_err(|why| Refusal::Unread { file, why })?;
+    let journal = Journal::open(bytes, count).map_err(|why| Refusal::Malformed {
+        file,
+        record: why.record,
+    })?;
+    print_records(rt, &journal)?;
+    Ok(())
 }

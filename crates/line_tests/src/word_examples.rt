@@ -84,7 +84,7 @@ fn an_outbox_keeps_its_rest(rt: HostRuntime) -> Result<(), Fail> {
 #[test]
 fn faults_say_what_they_mean(rt: HostRuntime) -> Result<(), Fail> {
     let heap = rt.alloc();
-    let seat = Seat::new(3).ok_or_else(|| Fail::new("no such seat"))?;
+    let seat = seven(3, Kind::Prepare)?.seat;
     let peer = Fault::InvalidPeer {
         seat,
         state: 4u8,

@@ -11,7 +11,7 @@ pub const HELD_RECORDS: usize = 8;
 #[derive(Drop)]
 pub struct Gatherer<L> {
     below: L,
-    // an `ArrayVec` would fill its free places with a default, and a record has none
+    // not an `ArrayVec`, which asks for a default: that would let any code make a record that nobody wrote
     held: [Record; HELD_RECORDS],
     holding: usize,
     ghost few: { holding ≤ held_length },

@@ -12,6 +12,7 @@ use words::row::Row;
 // How many places of its log a vote for the step needs: for the Vote, and for its outcome.
 const VOTE_PLACES: usize = 2;
 
+// A log and an outbox are lent apart: the host keeps them, and not every call needs both.
 impl Participant {
     // Votes, once it was asked to prepare. A vote for the step that finds no place in the log for itself and its outcome is one against it, with fault 10.
     pub fn vote<L: Log>(

@@ -58,12 +58,9 @@ impl Participant {
     ) -> Result<usize, Fault<State>>
         ensures { Leaves (adds_record (record_of self.old entry) next self.old.state (log_of L.Log log.old)) self.old self.new (log_of L.Log log.new) result }
     {
-        match log.add(Record::new(self.transaction, entry)) {
-            Ok(()) => {
-                self.state = next;
-                Ok(0)
-            }
-            Err(full) => Err(Fault::LogFull { full, sent: 0 }),
-        }
+        log.add(Record::new(self.transaction, entry))
+            .map_err(|full| Fault::LogFull { full, sent: 0 })?;
+        self.state = next;
+        Ok(0)
     }
 }

@@ -1,7 +1,7 @@
 // A store over a pile of logs, and what faults carry.
 use journals::journal::Journal;
 use logs::gatherer::Gatherer;
-use logs::log::Log;
+use logs::log::{Full, Log};
 use logs::tray::Tray;
 use participant::{Ballot, Participant, State};
 use records::codec::RECORD_BYTES;
@@ -43,26 +43,16 @@ fn said(kind: Kind) -> Result<Notification, Fail> {
     })
 }
 
-// The count of an answer without a fault.
-fn count(answer: Result<usize, Fault<State>>) -> Result<usize, Fail> {
-    answer.map_err(|_| Fail::new("a fault"))
-}
-
-// The fault of an answer.
-fn fault(answer: Result<usize, Fault<State>>) -> Result<Fault<State>, Fail> {
-    answer.err().ok_or_else(|| Fail::new("no fault"))
-}
-
 // A participant that has voted for the step and waits for the outcome.
 fn doubting<L: Log>(rt: &impl Abort, log: &mut L) -> Result<Participant, Fail> {
     let mut outbox = OUTBOX;
     let mut store = Participant::join(9, seat(3)?);
     assert_eq!(rt;
-        count(store.receive(said(Kind::Prepare)?, log, &mut outbox))?,
-        0
+        store.receive(said(Kind::Prepare)?, log, &mut outbox),
+        Ok(0)
     );
-    assert_eq!(rt; count(store.vote(Ballot::Prepared, log, &mut outbox))?, 0);
-    assert_eq!(rt; count(store.settle(log, &mut outbox))?, 1);
+    assert_eq!(rt; store.vote(Ballot::Prepared, log, &mut outbox), Ok(0));
+    assert_eq!(rt; store.settle(log, &mut outbox), Ok(1));
     assert_eq!(rt; store.state(), State::InDoubt);
     Ok(store)
 }
@@ -73,7 +63,7 @@ fn the_rest_of_the_outbox_is_kept(rt: HostRuntime) -> Result<(), Fail> {
     let mut log = Tray::new();
     let mut store = doubting(&rt, &mut log)?;
     let mut outbox = OUTBOX;
-    assert_eq!(rt; count(store.resend(&mut outbox))?, 1);
+    assert_eq!(rt; store.resend(&mut outbox), Ok(1));
     assert_eq!(rt; outbox[0], Row::from(said(Kind::Prepared)?));
     assert_eq!(rt; outbox[1], OUTBOX[1]);
     Ok(())
@@ -87,17 +77,17 @@ fn a_pile_of_logs_is_a_log(rt: HostRuntime) -> Result<(), Fail> {
     let mut outbox = OUTBOX;
     let mut store = doubting(&rt, &mut log)?;
     assert_eq!(rt;
-        count(store.receive(said(Kind::Commit)?, &mut log, &mut outbox))?,
-        0
+        store.receive(said(Kind::Commit)?, &mut log, &mut outbox),
+        Ok(0)
     );
     assert_eq!(rt; store.state(), State::Keeping);
     let mut store = store.restart(&mut log, u32::MAX);
     assert_eq!(rt; store.state(), State::InDoubt);
     assert_eq!(rt;
-        count(store.receive(said(Kind::Commit)?, &mut log, &mut outbox))?,
-        0
+        store.receive(said(Kind::Commit)?, &mut log, &mut outbox),
+        Ok(0)
     );
-    assert_eq!(rt; count(store.settle(&mut log, &mut outbox))?, 1);
+    assert_eq!(rt; store.settle(&mut log, &mut outbox), Ok(1));
     let store = store.restart(&mut log, 0);
     assert_eq!(rt; store.state(), State::Kept);
     assert_eq!(rt; log.count(), 2);
@@ -113,8 +103,8 @@ fn a_cut_inside_a_record(rt: HostRuntime) -> Result<(), Fail> {
         let mut outbox = OUTBOX;
         let mut store = doubting(&rt, &mut log)?;
         assert_eq!(rt;
-            count(store.receive(said(Kind::Rollback)?, &mut log, &mut outbox))?,
-            0
+            store.receive(said(Kind::Rollback)?, &mut log, &mut outbox),
+            Ok(0)
         );
         let store = store.restart(&mut log, reached);
         assert_eq!(rt; store.state(), wanted);
@@ -128,15 +118,15 @@ fn a_peer_is_named(rt: HostRuntime) -> Result<(), Fail> {
     let mut log = Tray::new();
     let mut outbox = OUTBOX;
     let mut store = Participant::join(9, seat(3)?);
-    match fault(store.receive(said(Kind::Commit)?, &mut log, &mut outbox))? {
-        Fault::InvalidPeer { seat, state, sent } => {
-            assert_eq!(rt; seat.number(), 3);
-            assert_eq!(rt; state, State::Working);
-            assert_eq!(rt; sent, 0);
-            Ok(())
-        }
-        _ => Err(Fail::new("fault 8 was due")),
-    }
+    assert_eq!(rt;
+        store.receive(said(Kind::Commit)?, &mut log, &mut outbox),
+        Err(Fault::InvalidPeer {
+            seat: seat(3)?,
+            state: State::Working,
+            sent: 0,
+        })
+    );
+    Ok(())
 }
 
 // Fault 10 carries the log's own fault whole, and at a vote the spare count.
@@ -148,26 +138,23 @@ fn a_full_log_is_told(rt: HostRuntime) -> Result<(), Fail> {
     for _ in 0..31 {
         let _ = log.add(Record::new(8, Entry::Decision(SeatSet::empty())));
     }
-    match fault(store.receive(said(Kind::Commit)?, &mut log, &mut outbox))? {
-        Fault::LogFull { full, sent } => {
-            assert_eq!(rt; full.capacity, 32);
-            assert_eq!(rt; sent, 0);
-        }
-        _ => return Err(Fail::new("fault 10 was due")),
-    }
+    assert_eq!(rt;
+        store.receive(said(Kind::Commit)?, &mut log, &mut outbox),
+        Err(Fault::LogFull {
+            full: Full { capacity: 32 },
+            sent: 0,
+        })
+    );
     assert_eq!(rt; store.state(), State::InDoubt);
     let mut late = Participant::join(9, seat(3)?);
     assert_eq!(rt;
-        count(late.receive(said(Kind::Prepare)?, &mut log, &mut outbox))?,
-        0
+        late.receive(said(Kind::Prepare)?, &mut log, &mut outbox),
+        Ok(0)
     );
-    match fault(late.vote(Ballot::Prepared, &mut log, &mut outbox))? {
-        Fault::NoPlace { spare, sent } => {
-            assert_eq!(rt; spare, 0);
-            assert_eq!(rt; sent, 1);
-        }
-        _ => return Err(Fail::new("fault 10 was due")),
-    }
+    assert_eq!(rt;
+        late.vote(Ballot::Prepared, &mut log, &mut outbox),
+        Err(Fault::NoPlace { spare: 0, sent: 1 })
+    );
     assert_eq!(rt; late.state(), State::Undone);
     assert_eq!(rt; outbox[0], Row::from(said(Kind::Aborted)?));
     Ok(())

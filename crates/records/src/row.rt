@@ -10,6 +10,7 @@ use std::error::Error;
 use std::fmt;
 
 // A record as a plain row of numbers, which any numbers may fill, so its kind is a number: it is read back with a check.
+// Not one type with the row of a notification: other fields, and other checks.
 #[derive(Clone, Copy, PartialEq, Eq, Debug, Default)]
 pub struct Row {
     pub transaction: u32,
@@ -45,7 +46,7 @@ impl TryFrom<Row> for Record {
     }
 }
 
-// A row that is no record's.
+// A row that is no record's. Its Display is by hand, as those of all libraries here: a derived one states no output.
 #[derive(Clone, Copy, PartialEq, Eq, Debug)]
 pub struct NoRecord;
 

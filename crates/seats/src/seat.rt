@@ -13,7 +13,7 @@ pub struct Seat {
     ghost small: { value < seat_count },
 }
 
-// `new` and `number` are what `new` and `get` are of the library's NonZero: a test and a getter.
+// `new` answers absence and not an error: each caller makes an error of its own of it.
 impl Seat {
     // The seat of this number, or none where no seat has it.
     pub fn new(number: u8) -> Option<Seat>

@@ -3,6 +3,7 @@ use records::record::{Entry, Record};
 use seats::seat::Seat;
 use seats::set::SeatSet;
 use std::alloc::{AllocError, Global};
+use std::process::Abort;
 use std::test::Fail;
 use wording::call::{Command, parse};
 use wording::text::Hex;
@@ -47,54 +48,56 @@ fn bytes_in_hexadecimal(rt: HostRuntime) -> Result<(), Fail> {
     Ok(())
 }
 
-// The name of the command that some words ask for.
-fn asked(heap: Global, words: &[&str]) -> Result<&'static str, AllocError> {
+// Asks for a command by these words.
+fn ask(
+    rt: &impl Abort,
+    heap: Global,
+    words: &[&str],
+    wanted: Option<Command<'_>>,
+) -> Result<(), AllocError> {
     let mut texts = Vec::new(heap);
     for word in words {
         texts.push(String::from_str(heap, word)?)?;
     }
-    Ok(match parse(&texts) {
-        Some(Command::Demonstrate) => "demonstrate",
-        Some(Command::Help) => "help",
-        Some(
-            Command::Journal {
-                file: "f",
-                count: "3",
-            },
-        ) => "journal",
-        Some(Command::Journal { .. }) => "another journal",
-        Some(Command::Queue { places: "3" }) => "queue",
-        Some(Command::Queue { .. }) => "another queue",
-        Some(Command::Board) => "board",
-        Some(Command::ParticipantOnTray) => "participant tray",
-        Some(Command::ParticipantOnJournal { bytes: "44" }) => "participant journal",
-        Some(Command::ParticipantOnJournal { .. }) => "another participant journal",
-        None => "unknown",
-    })
+    assert_eq!(rt; parse(&texts), wanted);
+    Ok(())
 }
 
 #[test]
 fn calls_are_told_apart(rt: HostRuntime) -> Result<(), Fail> {
     let heap = rt.alloc();
-    assert_eq!(rt; asked(heap, &[])?, "demonstrate");
-    assert_eq!(rt; asked(heap, &["--help"])?, "help");
-    assert_eq!(rt; asked(heap, &["journal", "f", "3"])?, "journal");
-    assert_eq!(rt; asked(heap, &["journal", "3", "f"])?, "another journal");
-    assert_eq!(rt; asked(heap, &["line", "queue", "3"])?, "queue");
-    assert_eq!(rt; asked(heap, &["line", "board"])?, "board");
-    assert_eq!(rt; asked(heap, &["line", "queue"])?, "unknown");
-    assert_eq!(rt; asked(heap, &["participant", "tray"])?, "participant tray");
-    assert_eq!(rt;
-        asked(heap, &["participant", "journal", "44"])?,
-        "participant journal"
-    );
-    assert_eq!(rt; asked(heap, &["participant", "tray", "44"])?, "unknown");
-    assert_eq!(rt; asked(heap, &["participant", "board"])?, "unknown");
-    assert_eq!(rt; asked(heap, &["board", "line"])?, "unknown");
-    assert_eq!(rt; asked(heap, &["journal"])?, "unknown");
-    assert_eq!(rt; asked(heap, &["journal", "f"])?, "unknown");
-    assert_eq!(rt; asked(heap, &["journal", "f", "3", "x"])?, "unknown");
-    assert_eq!(rt; asked(heap, &["journals", "f", "3"])?, "unknown");
-    assert_eq!(rt; asked(heap, &[""])?, "unknown");
+    let journal = |file, count| Some(Command::Journal { file, count });
+    ask(&rt, heap, &[], Some(Command::Demonstrate))?;
+    ask(&rt, heap, &["--help"], Some(Command::Help))?;
+    ask(&rt, heap, &["journal", "f", "3"], journal("f", "3"))?;
+    ask(&rt, heap, &["journal", "3", "f"], journal("3", "f"))?;
+    ask(
+        &rt,
+        heap,
+        &["line", "queue", "3"],
+        Some(Command::Queue { places: "3" }),
+    )?;
+    ask(&rt, heap, &["line", "board"], Some(Command::Board))?;
+    ask(&rt, heap, &["line", "queue"], None)?;
+    ask(
+        &rt,
+        heap,
+        &["participant", "tray"],
+        Some(Command::ParticipantOnTray),
+    )?;
+    ask(
+        &rt,
+        heap,
+        &["participant", "journal", "44"],
+        Some(Command::ParticipantOnJournal { bytes: "44" }),
+    )?;
+    ask(&rt, heap, &["participant", "tray", "44"], None)?;
+    ask(&rt, heap, &["participant", "board"], None)?;
+    ask(&rt, heap, &["board", "line"], None)?;
+    ask(&rt, heap, &["journal"], None)?;
+    ask(&rt, heap, &["journal", "f"], None)?;
+    ask(&rt, heap, &["journal", "f", "3", "x"], None)?;
+    ask(&rt, heap, &["journals", "f", "3"], None)?;
+    ask(&rt, heap, &[""], None)?;
     Ok(())
 }

@@ -18,7 +18,7 @@ or take. For participant: receive KIND, receive T SEAT KIND, vote BALLOT, settle
 resend, cut N, outbox N, fill N or log; # begins a comment.";
 
 // What a call of the program asks for; the words as they were given.
-#[derive(Clone, Copy)]
+#[derive(Clone, Copy, PartialEq, Eq, Debug)]
 pub enum Command<'a> {
     // Show what a journal holds after a power cut.
     Demonstrate,

@@ -68,7 +68,7 @@ impl<S: Copy> Fault<S> {
         }
     }
 
-    // What it says, without its values.
+    // What it says, without its values: texts, as the names of kinds are.
     pub fn text(self) -> &'static str
         ensures { result.now ≡ fault_text self }
     {

@@ -11,6 +11,7 @@ use super::{Gatherer, HELD_RECORDS};
 use crate::log::{Full, Log};
 use records::record::Record;
 
+// A call that promises more than its trait says all of it again.
 impl<L: Log> Log for Gatherer<L> {
     ghost safe = { λ g. L.Log.safe g.below };
 

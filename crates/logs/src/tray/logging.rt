@@ -27,6 +27,14 @@ impl Tray {
     }
 }
 
+impl Default for Tray {
+    ghost is_default = { λ t. (safe_in t ≡ []) × (loose_in t ≡ []) };
+
+    fn default() -> Tray {
+        Tray::new()
+    }
+}
+
 impl Log for Tray {
     ghost safe = { safe_in };
 

@@ -19,6 +19,7 @@ impl Ranges {
         ensures { result ≡ padded pair_count (held self.now) }
     {
         let mut cells = [0u8; CELLS];
+        // the cells by index: nothing would be known of what a zip with their chunks writes
         for (i, pair) in self.pairs.as_slice().iter().enumerate() {
             cells[PAIR_CELLS * i] = pair.offset;
             cells[PAIR_CELLS * i + 1] = pair.length;

@@ -61,7 +61,7 @@ impl From<SeatSet> for Ranges {
 
     fn from(seats: SeatSet) -> Ranges {
         let mut ranges = Ranges::none();
-        // how many seats right below k are in the set; bits have no items to go over
+        // by number, since a run ends at a seat that is not in the set; `length` is how many right below k are in it
         let mut length = 0u8;
         for k in 0..SEATS + 1 {
             if seats.has_number(k) {

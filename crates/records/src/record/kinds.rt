@@ -40,7 +40,7 @@ impl Entry {
         }
     }
 
-    // What its seats are called.
+    // What its seats are called: texts, as the names are.
     pub(crate) fn noun(self) -> &'static str
         ensures { result.now ≡ noun_text self }
     {

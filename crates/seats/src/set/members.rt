@@ -50,6 +50,7 @@ impl SeatSet {
     pub fn has_number(self, number: u8) -> bool
         ensures { result ≡ member self.bits number }
     {
+        // a match: what `is_some_and` answers of a closure over the set has no proof
         match Seat::new(number) {
             Some(seat) => self.has(seat),
             None => false,
@@ -95,7 +96,17 @@ impl SeatSet {
             return None;
         }
         let bits = ((1u32 << count) - 1) << first;
+        // proved to lose nothing
         Some(SeatSet { bits: bits as u16 })
+    }
+}
+
+// The set without seats.
+impl Default for SeatSet {
+    ghost is_default = { λ seats. seats.bits ≡ 0 };
+
+    fn default() -> SeatSet {
+        SeatSet { bits: 0b0 }
     }
 }
 
@@ -104,7 +115,7 @@ impl fmt::Display for SeatSet {
     ghost output = { λ seats. Some (seat_text seats.bits) };
 
     fn fmt<W: fmt::Write>(&self, f: &mut fmt::Formatter<W>) -> fmt::Result {
-        // by number: bits have no items to go over
+        // a loop: what a chain with `filter` writes has no proof
         for number in 0..SEATS {
             if self.has_number(number) {
                 write!(f, " {number}")?;
