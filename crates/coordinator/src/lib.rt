@@ -7,7 +7,13 @@ ghost use Rattle.agreement.specs.CoordinatorRules.{opened, outcome_of};
 pub use agreement::coordinator::{Durability, Outcome, Place, Standing, State};
 use seats::seat::{SEATS, Seat};
 
+mod advancing;
+mod answers;
+mod giving;
+mod group;
 mod right;
+mod table;
+pub use answers::{Registered, Returned, Told};
 pub use right::ClosingRight;
 
 // How many places the outbox of a call has at least.

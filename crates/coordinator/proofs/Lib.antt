@@ -1,0 +1,2 @@
+pub mod GivingFacts
+pub mod TableFacts
