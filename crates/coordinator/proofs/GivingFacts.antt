@@ -1,7 +1,7 @@
 -- Notifications given to a table's seats, one place after another.
 use Rattle.std.proofs.Common.{◌≡◌, ℕ, zero, suc, ◌+◌, ◌<◌, ◌≤◌, Bool, true, false, cond, List, [], ◌∷◌, ◌++◌, length, map, take, set, get_or, None, sym, refl, ap, ap₂, ◌∙◌, add-one, add-zero, append-nil, length-append, arith}
 use lib.ListN.{length-map}
-use Rattle.std.proofs.lemmas.List.{map-append, take_all}
+use Rattle.std.proofs.lemmas.List.{map-append}
 use Rattle.agreement.specs.CoordinatorRules.{to_each}
 use Rattle.agreement.specs.Names.{Place}
 use Rattle.agreement.specs.Turns.{note}

@@ -1,2 +1,3 @@
+pub mod AskingFacts
 pub mod GivingFacts
 pub mod TableFacts

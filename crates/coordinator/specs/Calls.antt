@@ -1,14 +1,15 @@
 -- What the calls of a coordinator do, by the rules.
-use Rattle.std.specs.Prelude.{◌≡◌, ℕ, List, map, Ok, Err, Result}
-use Rattle.agreement.specs.CoordinatorRules.{Coord, CoordTurn, HeadTurn, coord, register, ask_commit, ask_rollback, expire, resend, settle, receive}
+use Rattle.std.specs.Prelude.{◌≡◌, ◌≢◌, ℕ, ◌≤◌, if◌then◌else◌, nat_lt, List, map, Ok, Err, Result}
+use Rattle.agreement.specs.CoordinatorRules.{Coord, CoordTurn, HeadTurn, coord, register, ask_commit, ask_rollback, expire, resend, settle, admitted, receive}
 use Rattle.agreement.specs.Logs.{LogState}
-use Rattle.agreement.specs.Turns.{Report, Reply, seated, tells, fails, report_of}
+use Rattle.agreement.specs.Turns.{Report, short_outbox, other_right, Reply, seated, tells, fails, report_of}
 use Rattle.agreement.specs.declared.coordinator.Durability.{Durability}
 use Rattle.agreement.specs.declared.coordinator.State.{State}
 use Rattle.coordinator.specs.declared.Coordinator.{Coordinator}
 use Rattle.coordinator.specs.declared.answers.Registered.{Registered}
 use Rattle.coordinator.specs.declared.answers.Returned.{Returned}
 use Rattle.coordinator.specs.declared.answers.Told.{Told}
+use Rattle.seats.specs.Sizes.{seat_count}
 use Rattle.words.specs.Notes.{Note, row_of}
 use Rattle.words.specs.Outboxes.{laid}
 use Rattle.words.specs.declared.fault.Fault.{Fault}
@@ -72,3 +73,15 @@ settled c room l = settle c.transaction room (coord_of c) l
 
 abbrev pub received : Coordinator → ℕ → Note → CoordTurn
 received c room n = receive c.transaction room n (coord_of c)
+
+-- why a right for transaction r was given back, by the coordinator of transaction t
+abbrev pub RightRefused : ℕ → ℕ → ℕ → Report State → Type 0
+RightRefused t room r f = f ≡ (if nat_lt room seat_count then short_outbox else other_right) × (seat_count ≤ room → r ≢ t)
+
+-- the checks of a notification
+abbrev pub checked : {A : Type 0} → Result A (Fault State) → Result A (Report State)
+checked (Ok a) = Ok a
+checked (Err f) = Err (report_of f)
+
+abbrev pub admits : Coordinator → ℕ → Note → Result (Unit {0}) (Fault State) → Type 0
+admits c room n r = checked r ≡ admitted c.transaction room n

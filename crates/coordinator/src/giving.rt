@@ -1,5 +1,6 @@
-ghost use Rattle.std.specs.Prelude.{◌≡◌, ◌≤◌, map, length};
+ghost use Rattle.std.specs.Prelude.{◌≡◌, ◌≤◌, [], ◌∷◌, map, length};
 ghost use Rattle.agreement.specs.CoordinatorRules.{to_each};
+ghost use Rattle.agreement.specs.Turns.{note};
 ghost use Rattle.coordinator.specs.Groups.{passes};
 ghost use Rattle.seats.specs.Sizes.{seat_count};
 ghost use Rattle.words.specs.Notes.{row_of};
@@ -8,6 +9,7 @@ ghost use Rattle.words.specs.Outboxes.{laid};
 use crate::Coordinator;
 use crate::group::Group;
 use crate::table::seat_of;
+use seats::seat::Seat;
 use words::kind::Kind;
 use words::notification::Notification;
 use words::row::Row;
@@ -31,5 +33,19 @@ impl Coordinator {
             }
         }
         sent
+    }
+
+    // Gives a notification to one seat, and answers that it gave one.
+    pub(crate) fn tell(&self, seat: Seat, kind: Kind, outbox: &mut [Row]) -> usize
+        requires { 1 ≤ length outbox.old }
+        ensures rows { outbox.new ≡ laid (map row_of (note self.now.transaction seat.value kind ∷ [])) outbox.old }
+        ensures count { result ≡ 1 }
+    {
+        outbox[0] = Row::from(Notification {
+            transaction: self.transaction,
+            seat,
+            kind,
+        });
+        1
     }
 }

@@ -9,10 +9,14 @@ use seats::seat::{SEATS, Seat};
 
 mod advancing;
 mod answers;
+mod calls;
 mod giving;
 mod group;
+mod receiving;
 mod right;
+mod settling;
 mod table;
+
 pub use answers::{Registered, Returned, Told};
 pub use right::ClosingRight;
 

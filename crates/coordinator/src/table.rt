@@ -1,4 +1,4 @@
-ghost use Rattle.std.specs.Prelude.{◌≡◌, ◌<◌, map, length, IfSome};
+ghost use Rattle.std.specs.Prelude.{◌≡◌, ◌<◌, map, length, IfSome, slice_set};
 ghost use Rattle.std.specs.Option.{option_map};
 ghost use Rattle.agreement.specs.CoordinatorRules.{ask, none_is, vacant_from};
 ghost use Rattle.coordinator.specs.Groups.{passes, same};
@@ -26,6 +26,15 @@ impl Coordinator {
         for place in self.table.iter_mut() {
             *place = asked(*place, durability);
         }
+    }
+
+    // Seats a participant, who stands so.
+    pub(crate) fn set_place(&mut self, seat: Seat, durability: Durability, standing: Standing)
+        ensures transaction { self.new.transaction ≡ self.old.transaction }
+        ensures state { self.new.state ≡ self.old.state }
+        ensures table { self.new.table ≡ slice_set self.old.table seat.value (Some (durability, standing)) }
+    {
+        self.table[usize::from(seat.number())] = Some((durability, standing));
     }
 
     // The first vacant seat, if there is one.

@@ -1,5 +1,4 @@
 use Rattle.std.proofs.Common.{arith}
-use Rattle.std.proofs.lemmas.Grind.{common_steps}
 use Rattle.agreement.specs.CoordinatorRules.{ask}
 use Rattle.coordinator.specs.Groups.{same}
 use Rattle.coordinator.proofs.TableFacts.{mapped_more, mapped_all}
