@@ -2,7 +2,8 @@ ghost use Rattle.std.specs.Prelude.{◌≡◌};
 ghost use Rattle.coordinator.specs.Groups.{passes};
 
 use agreement::coordinator::Durability::{Durable, Volatile};
-use agreement::coordinator::{Place, Standing};
+use agreement::coordinator::Place;
+use agreement::coordinator::Standing::{Asked, Heard, Idle, Voted};
 
 // A group of places of the table, by the durability of their participants and how they stand.
 #[derive(Clone, Copy)]
@@ -23,20 +24,14 @@ impl Group {
     pub(crate) fn has(self, place: Place) -> bool
         ensures { result ≡ passes self place }
     {
-        let Some((durability, standing)) = place else {
-            return false;
-        };
         match self {
-            Group::IdleVolatile => matches!((durability, standing), (Volatile, Standing::Idle)),
-            Group::IdleDurable => matches!((durability, standing), (Durable, Standing::Idle)),
-            Group::PendingVolatile => matches!(
-                (durability, standing),
-                (Volatile, Standing::Idle | Standing::Asked)
-            ),
-            Group::Asked => matches!(standing, Standing::Asked),
-            Group::Voted => matches!(standing, Standing::Voted),
-            Group::VotedDurable => matches!((durability, standing), (Durable, Standing::Voted)),
-            Group::Remaining => !matches!(standing, Standing::Gone),
+            Group::IdleVolatile => matches!(place, Some((Volatile, Idle))),
+            Group::IdleDurable => matches!(place, Some((Durable, Idle))),
+            Group::PendingVolatile => matches!(place, Some((Volatile, Idle | Asked))),
+            Group::Asked => matches!(place, Some((_, Asked))),
+            Group::Voted => matches!(place, Some((_, Voted))),
+            Group::VotedDurable => matches!(place, Some((Durable, Voted))),
+            Group::Remaining => matches!(place, Some((_, Idle | Asked | Voted | Heard))),
         }
     }
 }

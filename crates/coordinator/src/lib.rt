@@ -20,11 +20,11 @@ mod table;
 pub use answers::{Registered, Returned, Told};
 pub use right::ClosingRight;
 
-// How many places the outbox of a call has at least.
-pub const OUTBOX_PLACES: usize = 16;
-
 // How many places the table has: one for each seat.
 const PLACES: usize = SEATS as usize;
+
+// How many places the outbox of a call has at least: a call gives each seat at most one notification.
+pub const OUTBOX_PLACES: usize = PLACES;
 
 // The coordinator of a transaction.
 #[derive(Drop)]

@@ -9,9 +9,11 @@ ghost use Rattle.words.specs.Notes.{note_of};
 use crate::calls::check_room;
 use crate::group::Group;
 use crate::{Coordinator, Durability, Standing, State};
+use agreement::coordinator::Standing::{Asked, Gone, Heard, Idle, Voted};
+use agreement::coordinator::State::{Committing, Done, Noted, Rolled};
 use seats::seat::Seat;
 use words::fault::Fault;
-use words::kind::Kind;
+use words::kind::Kind::{self, Aborted, Commit, Committed, Prepare, Prepared, ReadOnly, Rollback};
 use words::notification::Notification;
 use words::row::Row;
 
@@ -33,15 +35,14 @@ fn verdict_on(kind: Kind, standing: Standing) -> Verdict
     ensures { verdict_of result ≡ verdict kind standing }
 {
     match (standing, kind) {
-        (Standing::Asked, Kind::Prepared) => Verdict::Stands(Standing::Voted),
-        (Standing::Idle | Standing::Asked, Kind::ReadOnly) => Verdict::Stands(Standing::Gone),
-        (Standing::Idle | Standing::Asked, Kind::Aborted) => Verdict::Withdraws,
-        (Standing::Idle, Kind::Prepared) => Verdict::Breaks,
-        (Standing::Idle | Standing::Asked | Standing::Voted, Kind::Committed) => Verdict::Breaks,
-        (Standing::Voted, Kind::ReadOnly | Kind::Aborted) => Verdict::Breaks,
-        (Standing::Voted, Kind::Prepared) => Verdict::Ignored,
-        (Standing::Gone | Standing::Heard, _) => Verdict::Ignored,
-        (_, Kind::Prepare | Kind::Commit | Kind::Rollback) => Verdict::Ignored,
+        (Idle, Prepared) => Verdict::Breaks,
+        (Asked, Prepared) => Verdict::Stands(Voted),
+        (Voted, Prepared) => Verdict::Ignored,
+        (Idle | Asked, ReadOnly) => Verdict::Stands(Gone),
+        (Idle | Asked, Aborted) => Verdict::Withdraws,
+        (Voted, ReadOnly | Aborted) => Verdict::Breaks,
+        (Idle | Asked | Voted, Committed) => Verdict::Breaks,
+        (Gone | Heard, _) | (_, Prepare | Commit | Rollback) => Verdict::Ignored,
     }
 }
 
@@ -77,18 +78,17 @@ impl Coordinator {
         requires { seat_count ≤ length outbox.old }
         ensures { Obeys (hear self.old.transaction seat.value kind (coord_of self.old)) self.old self.new outbox.old outbox.new (reply_of result) }
     {
-        if self.state == State::Rolled {
+        if self.state == Rolled {
             return self.hear_rolled(seat, kind, outbox);
         }
         let (durability, standing) = self.place(seat).ok_or(Fault::UnknownTransaction)?;
-        if standing == Standing::Gone {
+        if standing == Gone {
             return Ok(0);
         }
         match self.state {
-            State::Noted => self.hear_noted(seat, kind),
-            State::Committing | State::Done => {
-                self.hear_decided(seat, kind, durability, standing, outbox)
-            }
+            Noted => self.hear_noted(seat, kind),
+            Committing | Done => self.hear_decided(seat, kind, durability, standing, outbox),
+            // from Active to Ready: not all four are named, since Rolled is dealt with above
             _ => self.judge(seat, durability, verdict_on(kind, standing), outbox),
         }
     }
@@ -111,7 +111,7 @@ impl Coordinator {
                 Ok(self.advance(outbox))
             }
             Verdict::Withdraws => {
-                self.set_place(seat, durability, Standing::Gone);
+                self.set_place(seat, durability, Gone);
                 Ok(self.roll_back(outbox))
             }
             Verdict::Breaks => {
@@ -127,7 +127,7 @@ impl Coordinator {
         ensures { reply_of result ≡ (hear_noted seat.value kind (coord_of self.now)).reply }
     {
         match kind {
-            Kind::ReadOnly | Kind::Aborted | Kind::Committed => Err(self.invalid_peer(seat)),
+            Kind::ReadOnly | Kind::Aborted | Committed => Err(self.invalid_peer(seat)),
             _ => Ok(0),
         }
     }
@@ -145,12 +145,12 @@ impl Coordinator {
         ensures { Obeys (hear_decided self.old.transaction seat.value kind durability standing (coord_of self.old)) self.old self.new outbox.old outbox.new (reply_of result) }
     {
         match (kind, durability, standing) {
-            (Kind::Prepared, _, _) => Ok(self.tell(seat, Kind::Commit, outbox)),
-            (Kind::ReadOnly | Kind::Aborted, _, _) => Err(self.invalid_peer(seat)),
-            (Kind::Committed, Durability::Durable, Standing::Voted) => {
-                self.set_place(seat, durability, Standing::Heard);
+            (Prepared, _, _) => Ok(self.tell(seat, Commit, outbox)),
+            (ReadOnly | Aborted, _, _) => Err(self.invalid_peer(seat)),
+            (Committed, Durability::Durable, Voted) => {
+                self.set_place(seat, durability, Heard);
                 if self.has_none(Group::VotedDurable) {
-                    self.state = State::Done;
+                    self.state = Done;
                 }
                 Ok(0)
             }
@@ -164,8 +164,8 @@ impl Coordinator {
         ensures { Obeys (hear_rolled self.now.transaction seat.value kind (coord_of self.now)) self.now self.now outbox.old outbox.new (reply_of result) }
     {
         match kind {
-            Kind::Prepared => Ok(self.tell(seat, Kind::Rollback, outbox)),
-            Kind::Committed => Err(self.invalid_peer(seat)),
+            Prepared => Ok(self.tell(seat, Rollback, outbox)),
+            Committed => Err(self.invalid_peer(seat)),
             _ => Ok(0),
         }
     }

@@ -41,7 +41,7 @@ impl Coordinator {
     pub(crate) fn vacant(&self) -> Option<Seat>
         ensures { option_map (λ (s : Seat). s.value) result ≡ vacant_from 0 self.now.table }
     {
-        first_vacant(&self.table).map(|number| seat_of(number))
+        first_vacant(&self.table).map(seat_of)
     }
 }
 
