@@ -18,6 +18,7 @@ pub struct Told {
 }
 
 // The refusal of asking: the closing right, unspent, and why.
+#[derive(Debug)]
 pub struct Returned {
     pub right: ClosingRight,
     pub fault: Fault<State>,

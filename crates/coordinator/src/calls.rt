@@ -10,7 +10,6 @@ use crate::{
 };
 use words::fault::Fault;
 use words::kind::Kind;
-use words::notification::Notification;
 use words::row::Row;
 
 impl Coordinator {

@@ -1,6 +1,7 @@
 ghost use Rattle.std.specs.Prelude.{◌≡◌};
 
 // The right to close one transaction: to ask for its commit, or for its roll-back. Opening gives it, and only asking spends it: it is neither copied nor dropped.
+#[derive(Debug)]
 pub struct ClosingRight {
     transaction: u32,
 }
