@@ -1,5 +1,7 @@
-// Examples of the participant over several logs, worked out from docs/PROTOCOL.md. Every cell of its tables is run by tests/cells.
+// Examples of both parties over several logs, worked out from docs/PROTOCOL.md. Every cell of the participant's tables is run by tests/cells.
 #![tactic(auto)]
 
+#[cfg(test)]
+mod coordinators;
 #[cfg(test)]
 mod stores;
