@@ -1,6 +1,5 @@
 -- What one pass over the table tells, and what it changes.
-use Rattle.std.proofs.Common.{◌≡◌, ℕ, zero, suc, ◌+◌, ◌<◌, ◌≤◌, Bool, not, ◌&&◌, List, [], ◌∷◌, ◌++◌, length, map, take, drop, set, get_or, Some, None, refl, ap, add-one, arith}
-use Rattle.std.proofs.lemmas.Grind.{common_steps}
+use Rattle.std.proofs.Common.{◌≡◌, ℕ, zero, suc, ◌+◌, ◌<◌, Bool, not, ◌&&◌, List, [], ◌∷◌, ◌++◌, length, map, take, drop, set, get_or, Some, None, refl, ap, add-one, arith}
 use Rattle.std.specs.List.{list_all, position_from}
 use Rattle.std.specs.Option.{is_none}
 use Rattle.agreement.specs.CoordinatorRules.{none_is, vacant_from}
@@ -26,6 +25,3 @@ mapped-set f (p ∷ ps) (suc i) d h = ap (λ (qs : List Place). f p ∷ qs) (map
 pub mapped_more : (f : Place → Place) (ps qs : List Place) (i : ℕ) (p : Place) → qs ≡ map f (take i ps) ++ drop i ps → i < length ps → p ≡ f (get_or qs i None)
     → set qs i p ≡ map f (take (i + 1) ps) ++ drop (i + 1) ps
 mapped_more f ps qs i p e h v = rw (v, e, add-one) (mapped-set f ps i None h)
-
-pub mapped_all : (f : Place → Place) (ps qs : List Place) (i : ℕ) → qs ≡ map f (take i ps) ++ drop i ps → length ps ≤ i → qs ≡ map f ps
-mapped_all f ps qs i e h = grind (arith, common_steps)

@@ -1,4 +1,4 @@
-ghost use Rattle.std.specs.Prelude.{◌≡◌, ◌≤◌, [], length};
+ghost use Rattle.std.specs.Prelude.{◌≤◌, [], length};
 ghost use Rattle.agreement.specs.CoordinatorRules.{advance, rolls_back, volatile_asked};
 ghost use Rattle.agreement.specs.Turns.{done};
 ghost use Rattle.coordinator.specs.Calls.{Obeys, coord_of};

@@ -88,7 +88,7 @@ impl Coordinator {
         match self.state {
             Noted => self.hear_noted(seat, kind),
             Committing | Done => self.hear_decided(seat, kind, durability, standing, outbox),
-            // from Active to Ready: not all four are named, since Rolled is dealt with above
+            // the four in which votes are gathered: Rolled is dealt with above
             _ => self.judge(seat, durability, verdict_on(kind, standing), outbox),
         }
     }
