@@ -1,7 +1,7 @@
 -- The invariant of the world, that every move keeps it, and what it says.
-use Rattle.std.proofs.Common.{◌≡◌, ℕ, true, false, eqb, ltb, ◌⊎◌, List, [], ◌∷◌, ◌++◌, get_or, set, Some, sym, refl, ap, ◌∙◌, subst, inl, inr, arith}
+use Rattle.std.proofs.Common.{◌≡◌, ℕ, true, false, eqb, ltb, ◌⊎◌, List, [], ◌∷◌, ◌++◌, get_or, set, Some, sym, refl, ap, ◌∙◌, subst, inl, inr, arith, append-nil}
 use Rattle.std.proofs.lemmas.Bool.{cond_both, eqb-false}
-use Rattle.lines.proofs.MemberFacts.{in-cases, in_right}
+use Rattle.lines.proofs.MemberFacts.{in-cases, in_left}
 use Rattle.lines.specs.Lines.{In, Within}
 use Rattle.seats.specs.Sizes.{seat_count}
 use Rattle.words.specs.Kinds.{goes_up}
@@ -164,11 +164,11 @@ module _ (t : ℕ) where
       record {
         coord = o;
         parts = λ s p h. part-more _ _ _ _ f g t s p.state p.log (i.parts s p h);
-        given = λ n h e. elim (in-cases n ns q.mail.given h) [
-          | inl a ↦ coord-authority t n.kind n.seat (seat_in q n.seat) c (m n a).1
-          | inr a ↦ authority-more _ _ _ _ f g t n.kind n.seat (seat_in q n.seat) (seat_in q n.seat) (λ v. v) (λ v. v) (i.given n a e)
+        given = λ n h e. elim (in-cases n q.mail.given ns h) [
+          | inr a ↦ coord-authority t n.kind n.seat (seat_in q n.seat) c (m n a).1
+          | inl a ↦ authority-more _ _ _ _ f g t n.kind n.seat (seat_in q n.seat) (seat_in q n.seat) (λ v. v) (λ v. v) (i.given n a e)
         ];
-        posted = λ n h e. elim (i.posted n h e) [ inl a ↦ inl (in_right n ns q.mail.given a) | inr a ↦ inr a ];
+        posted = λ n h e. elim (i.posted n h e) [ inl a ↦ inl (in_left n q.mail.given ns a) | inr a ↦ inr a ];
         taken = i.taken;
         waiting = i.waiting;
       }
@@ -266,7 +266,9 @@ module _ (t : ℕ) where
         }
 
     by_register_lem : (turn : CoordTurn) → Registering t d q₀.coord q₀.seats q₀.mail.posted turn → Inv t (world w.log (by_register d q₀ turn) w.told)
-    by_register_lem _ (refused f) = i
+    by_register_lem _ (refused f) =
+        subst (λ (ns : List Note). Inv t (world w.log (office q₀.coord q₀.seats (record { given = ns; posted = q₀.mail.posted; taken = q₀.mail.taken; waiting = q₀.mail.waiting })) w.told))
+        (sym (append-nil q₀.mail.given)) i
     by_register_lem _ (granted n e g k) =
         let follow = new-follows n e in
         let turn = seat_at t d q₀.coord (Some n) in
@@ -277,11 +279,11 @@ module _ (t : ℕ) where
               | inl c ↦ absurd (new-joined d p (sym c.1 ∙ h))
               | inr c ↦ i.office.parts s p (sym c ∙ h)
             ];
-            given = λ m h a. elim (in-cases m turn.sent q₀.mail.given h) [
-              | inl b ↦ coord-authority t m.kind m.seat _ turn.after (k.sent m b).1
-              | inr b ↦ authority-turned q₀ n (new_party d) follow _ _ _ _ (λ x. x) (λ x. x) m.kind m.seat (i.office.given m b a)
+            given = λ m h a. elim (in-cases m q₀.mail.given turn.sent h) [
+              | inr b ↦ coord-authority t m.kind m.seat _ turn.after (k.sent m b).1
+              | inl b ↦ authority-turned q₀ n (new_party d) follow _ _ _ _ (λ x. x) (λ x. x) m.kind m.seat (i.office.given m b a)
             ];
-            posted = posted-turned q₀ n (new_party d) follow _ (λ m h. in_right m turn.sent q₀.mail.given h) i.office;
+            posted = posted-turned q₀ n (new_party d) follow _ (λ m h. in_left m q₀.mail.given turn.sent h) i.office;
             taken = i.office.taken;
             waiting = i.office.waiting;
           };
@@ -305,14 +307,14 @@ module _ (t : ℕ) where
               | inl c ↦ subst (λ (a : ℕ). PartIn t q₁ a r) c.0 (subst (PartIn t q₁ s) (joined_same p r (sym c.1 ∙ h)) o)
               | inr c ↦ i.office.parts j r (sym c ∙ h)
             ];
-            given = λ n h e. elim (in-cases n ns q₁.mail.given h) [
-              | inl a ↦ let k = m n a in
+            given = λ n h e. elim (in-cases n q₁.mail.given ns h) [
+              | inr a ↦ let k = m n a in
                   subst (λ (j : ℕ). Authority t (Decided q₁.coord) (RolledBack q₁.coord) n.kind j (get_or (set q₁.seats s (joined p)) j nobody)) (sym k.0)
                   (subst (λ (y : Party). Authority t (Decided q₁.coord) (RolledBack q₁.coord) n.kind s y) (sym (set_here q₁.seats s (joined p) nobody there))
                   (part-authority t (Decided q₁.coord) (RolledBack q₁.coord) n.kind s p k.1))
-              | inr a ↦ authority-turned q₁ s (joined p) f _ _ _ _ (λ x. x) (λ x. x) n.kind n.seat (i.office.given n a e)
+              | inl a ↦ authority-turned q₁ s (joined p) f _ _ _ _ (λ x. x) (λ x. x) n.kind n.seat (i.office.given n a e)
             ];
-            posted = posted-turned q₁ s (joined p) f _ (λ n h. in_right n ns q₁.mail.given h) i.office;
+            posted = posted-turned q₁ s (joined p) f _ (λ n h. in_left n q₁.mail.given ns h) i.office;
             taken = i.office.taken;
             waiting = i.office.waiting;
           };

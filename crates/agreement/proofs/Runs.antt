@@ -65,7 +65,7 @@ commits = (
                 (
                   tt,
                   (
-                    (was_given (inl refl), λ m h. h),
+                    (was_given (inr (inl refl)), λ m h. h),
                     (
                       (inl refl, λ m h. absurd h),
                       (
@@ -74,7 +74,7 @@ commits = (
                           tt,
                           (
                             tt,
-                            ((was_given (inl refl), λ m h. h), ((inl refl, λ m h. absurd h), (inl refl, (tt, (tt, tt))))),
+                            ((was_given (inr (inr (inl refl))), λ m h. h), ((inl refl, λ m h. absurd h), (inl refl, (tt, (tt, tt))))),
                           ),
                         ),
                       ),
@@ -112,7 +112,7 @@ aborts = (
               inl refl,
               (
                 tt,
-                ((was_given (inl refl), λ m h. h), ((inl refl, λ m h. absurd h), (inl refl, (tt, tt)))),
+                ((was_given (inr (inl refl)), λ m h. h), ((inl refl, λ m h. absurd h), (inl refl, (tt, tt)))),
               ),
             ),
           ),

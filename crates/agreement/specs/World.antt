@@ -19,7 +19,7 @@ pub data Party : Type 0 where
   awaited : Party
   joined : Part → Party
 
--- what calls gave to be posted, what was posted, what was taken from the line, and what waits on it; the newest first
+-- what calls gave to be posted, in the order in which they gave it; what was posted and what was taken from the line, the newest first; and what waits on it
 pub record Mail : Type 0 where
   pub given : List Note
   pub posted : List Note
@@ -44,7 +44,7 @@ seat_in q s = slice_index_or q.seats s nobody
 -- ── what a call changes ──
 
 abbrev pub giving : List Note → Mail → Mail
-giving ns m = record { given = ns ++ m.given; posted = m.posted; taken = m.taken; waiting = m.waiting }
+giving ns m = record { given = m.given ++ ns; posted = m.posted; taken = m.taken; waiting = m.waiting }
 
 abbrev pub office : Coord → List Party → Mail → Office
 office c ps m = record { coord = c; seats = ps; mail = m }
