@@ -1,6 +1,6 @@
 -- What the calls of a coordinator do, by the rules.
 use Rattle.std.specs.Prelude.{◌≡◌, ◌≢◌, ℕ, ◌≤◌, if◌then◌else◌, nat_lt, List, map, Ok, Err, Result}
-use Rattle.agreement.specs.CoordinatorRules.{Coord, CoordTurn, HeadTurn, coord, register, ask_commit, ask_rollback, expire, resend, settle, admitted, receive}
+use Rattle.agreement.specs.CoordinatorRules.{Coord, CoordTurn, HeadTurn, coord, register, ask_commit, ask_rollback, expire, resend, settle, restart, admitted, receive}
 use Rattle.agreement.specs.Logs.{LogState}
 use Rattle.agreement.specs.Turns.{Report, short_outbox, other_right, Reply, seated, tells, fails, report_of}
 use Rattle.agreement.specs.declared.coordinator.Durability.{Durability}
@@ -85,3 +85,16 @@ checked (Err f) = Err (report_of f)
 
 abbrev pub admits : Coordinator → ℕ → Note → Result (Unit {0}) (Fault State) → Type 0
 admits c room n r = checked r ≡ admitted c.transaction room n
+
+-- a restart that k loose records outlast
+abbrev pub woken : Coordinator → ℕ → LogState → HeadTurn
+woken c k l = restart c.transaction k l
+
+-- a restart leaves the coordinator and its log so; it gives nothing
+pub record Wakes (turn : HeadTurn) (c d : Coordinator) (log : LogState) : Type 0 where
+  pub transaction : d.transaction ≡ c.transaction
+  pub state : d.state ≡ turn.after.coord.state
+  pub table : d.table ≡ turn.after.coord.table
+  pub safe : log.safe ≡ turn.after.log.safe
+  pub loose : log.loose ≡ turn.after.log.loose
+  pub capacity : log.capacity ≡ turn.after.log.capacity

@@ -13,6 +13,7 @@ mod calls;
 mod giving;
 mod group;
 mod receiving;
+mod restarting;
 mod right;
 mod settling;
 mod table;

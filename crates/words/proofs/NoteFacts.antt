@@ -25,7 +25,7 @@ kind-back Aborted = refl
 kind-back Committed = refl
 
 -- the number of a kind that is read is the one that was read
-kind-read : (n : ℕ) (k : Kind) → kind_at n ≡ Some k → kind_number k ≡ n
+pub kind-read : (n : ℕ) (k : Kind) → kind_at n ≡ Some k → kind_number k ≡ n
 kind-read n k e = grind (arith, nat_tests)
 
 same_kind : (j k : Kind) → kind_number j ≡ kind_number k → j ≡ k

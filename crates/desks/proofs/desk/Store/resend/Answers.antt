@@ -1,0 +1,5 @@
+use Rattle.agreement.specs.Logs.{log_of}
+use Rattle.desks.proofs.desk.Store.resend.Goals as goal
+
+pub returns : goal.returns
+returns g c = c.resend.ensures (log_of g.P.Log c.args.self.now.log)

@@ -1,0 +1,4 @@
+pub mod Own
+pub mod Rows
+pub mod Steps
+pub mod Worlds

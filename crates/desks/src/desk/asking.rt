@@ -1,0 +1,96 @@
+ghost use Rattle.std.specs.Prelude.{◌≡◌, None, MatchResult};
+ghost use Rattle.desks.specs.Steps.{Did, Tried, RegisteredAs, AskedCommit, AskedRollback, AskedOutcome};
+ghost use Rattle.desks.specs.Worlds.{newcomer, world_of};
+
+use super::{BLANK, Desk, PLACES, Party};
+use crate::rows::keep;
+use agreement::coordinator::{Durability, Outcome, State};
+use coordinator::{Registered, Told};
+use lines::line::Line;
+use logs::log::Log;
+use std::alloc::AllocError;
+use words::fault::Fault;
+
+impl<C: Log, P: Log + Drop, N: Line> Desk<C, P, N> {
+    // The initiator asks the outcome.
+    pub fn outcome(&mut self) -> Result<Outcome, AllocError>
+        ensures transaction { self.new.transaction ≡ self.old.transaction }
+        ensures right { self.new.right ≡ self.old.right }
+        ensures step { Did (AskedOutcome self.old.transaction (world_of C.Log P.Log N.Line self.old) (world_of C.Log P.Log N.Line self.new)) (world_of C.Log P.Log N.Line self.old) (world_of C.Log P.Log N.Line self.new) result }
+    {
+        let outcome = self.coordinator.outcome();
+        self.told.push(outcome)?;
+        Ok(outcome)
+    }
+
+    // The initiator asks to commit, if the closing right is still there.
+    pub fn ask_commit(&mut self) -> Result<Option<Told>, AllocError>
+        ensures transaction { self.new.transaction ≡ self.old.transaction }
+        ensures right { MatchResult result (λ _. self.new.right ≡ None) (λ _. self.new.right ≡ self.old.right) }
+        ensures step { Tried (AskedCommit self.old.transaction (world_of C.Log P.Log N.Line self.old) (world_of C.Log P.Log N.Line self.new)) (self.old.right ≡ None) (world_of C.Log P.Log N.Line self.old) (world_of C.Log P.Log N.Line self.new) result }
+    {
+        self.given.reserve(PLACES)?;
+        self.told.reserve(1)?;
+        let Some(right) = self.right.take() else {
+            return Ok(None);
+        };
+        let mut outbox = [BLANK; PLACES];
+        let told = match self.coordinator.ask_commit(right, &mut outbox) {
+            Ok(told) => told,
+            Err(returned) => unreachable(),
+        };
+        keep(&mut self.given, &outbox);
+        self.told.push(told.outcome)?;
+        Ok(Some(told))
+    }
+
+    // The initiator asks to roll back, if the closing right is still there.
+    pub fn ask_rollback(&mut self) -> Result<Option<Told>, AllocError>
+        ensures transaction { self.new.transaction ≡ self.old.transaction }
+        ensures right { MatchResult result (λ _. self.new.right ≡ None) (λ _. self.new.right ≡ self.old.right) }
+        ensures step { Tried (AskedRollback self.old.transaction (world_of C.Log P.Log N.Line self.old) (world_of C.Log P.Log N.Line self.new)) (self.old.right ≡ None) (world_of C.Log P.Log N.Line self.old) (world_of C.Log P.Log N.Line self.new) result }
+    {
+        self.given.reserve(PLACES)?;
+        self.told.reserve(1)?;
+        let Some(right) = self.right.take() else {
+            return Ok(None);
+        };
+        let mut outbox = [BLANK; PLACES];
+        let told = match self.coordinator.ask_rollback(right, &mut outbox) {
+            Ok(told) => told,
+            Err(returned) => unreachable(),
+        };
+        keep(&mut self.given, &outbox);
+        self.told.push(told.outcome)?;
+        Ok(Some(told))
+    }
+
+    // A participant registers.
+    pub fn register(
+        &mut self,
+        durability: Durability,
+    ) -> Result<Result<Registered, Fault<State>>, AllocError>
+        ensures transaction { self.new.transaction ≡ self.old.transaction }
+        ensures right { self.new.right ≡ self.old.right }
+        ensures step { Did (RegisteredAs self.old.transaction (world_of C.Log P.Log N.Line self.old) (world_of C.Log P.Log N.Line self.new) durability) (world_of C.Log P.Log N.Line self.old) (world_of C.Log P.Log N.Line self.new) result }
+    {
+        self.given.reserve(PLACES)?;
+        let mut outbox = [BLANK; PLACES];
+        let answer = self.coordinator.register(durability, &mut outbox);
+        keep(&mut self.given, &outbox);
+        if let Ok(registered) = answer {
+            self.seats[usize::from(registered.seat.number())] = newcomer(durability);
+        }
+        Ok(answer)
+    }
+}
+
+// Who sits at a seat that was just given.
+fn newcomer<P>(durability: Durability) -> Party<P>
+    ensures { result ≡ newcomer durability }
+{
+    match durability {
+        Durability::Volatile => Party::Volatile,
+        Durability::Durable => Party::Awaited,
+    }
+}

@@ -1,0 +1,64 @@
+ghost use Rattle.std.specs.Prelude.{◌≡◌};
+ghost use Rattle.desks.specs.Steps.{Did, Tried, PostedAt, Said, Took, NotGiven, CannotSay};
+ghost use Rattle.desks.specs.Worlds.{world_of};
+
+use super::{Desk, Party};
+use lines::line::Line;
+use logs::log::Log;
+use seats::seat::Seat;
+use std::alloc::AllocError;
+use words::kind::Kind;
+use words::notification::Notification;
+
+impl<C: Log, P: Log, N: Line> Desk<C, P, N> {
+    // Posts the notification that calls gave with this number.
+    pub fn post(&mut self, number: usize) -> Result<Option<()>, AllocError>
+        ensures transaction { self.new.transaction ≡ self.old.transaction }
+        ensures right { self.new.right ≡ self.old.right }
+        ensures step { Tried (λ _. PostedAt self.old.transaction (world_of C.Log P.Log N.Line self.old) (world_of C.Log P.Log N.Line self.new) number) (NotGiven number (world_of C.Log P.Log N.Line self.old)) (world_of C.Log P.Log N.Line self.old) (world_of C.Log P.Log N.Line self.new) result }
+    {
+        let Some(row) = self.given.get(number) else {
+            return Ok(None);
+        };
+        let Ok(notification) = Notification::try_from(*row) else {
+            return Ok(None);
+        };
+        self.posted.push(notification)?;
+        self.line.post(notification);
+        Ok(Some(()))
+    }
+
+    // Takes what the line gives.
+    pub fn take(&mut self) -> Result<Option<Notification>, AllocError>
+        ensures transaction { self.new.transaction ≡ self.old.transaction }
+        ensures right { self.new.right ≡ self.old.right }
+        ensures step { Did (Took self.old.transaction (world_of C.Log P.Log N.Line self.old) (world_of C.Log P.Log N.Line self.new)) (world_of C.Log P.Log N.Line self.old) (world_of C.Log P.Log N.Line self.new) result }
+    {
+        self.taken.reserve(1)?;
+        let Some(notification) = self.line.take() else {
+            return Ok(None);
+        };
+        self.taken.push(notification)?;
+        Ok(Some(notification))
+    }
+
+    // A volatile participant posts a notification of its own, true or not.
+    pub fn say(&mut self, seat: Seat, kind: Kind) -> Result<Option<()>, AllocError>
+        ensures transaction { self.new.transaction ≡ self.old.transaction }
+        ensures right { self.new.right ≡ self.old.right }
+        ensures step { Tried (λ _. Said self.old.transaction (world_of C.Log P.Log N.Line self.old) (world_of C.Log P.Log N.Line self.new) seat.value kind) (CannotSay seat.value kind (world_of C.Log P.Log N.Line self.old)) (world_of C.Log P.Log N.Line self.old) (world_of C.Log P.Log N.Line self.new) result }
+    {
+        let volatile = matches!(self.seats[usize::from(seat.number())], Party::Volatile);
+        if !volatile || !kind.goes_up() {
+            return Ok(None);
+        }
+        let notification = Notification {
+            transaction: self.transaction,
+            seat,
+            kind,
+        };
+        self.posted.push(notification)?;
+        self.line.post(notification);
+        Ok(Some(()))
+    }
+}

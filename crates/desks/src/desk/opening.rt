@@ -1,0 +1,48 @@
+ghost use Rattle.std.specs.Prelude.{◌≡◌, MatchResult, replicate, is_some, true};
+ghost use Rattle.agreement.specs.Logs.{log_of};
+ghost use Rattle.agreement.specs.World.{at_first};
+ghost use Rattle.desks.specs.Worlds.{world_of};
+ghost use Rattle.desks.specs.declared.desk.Party.TheVariants.{Nobody};
+ghost use Rattle.seats.specs.Sizes.{seat_count};
+
+use super::{Desk, Party};
+use coordinator::Coordinator;
+use lines::line::Line;
+use logs::log::Log;
+use seats::seat::SEATS;
+use std::alloc::{AllocError, Global};
+
+impl<C: Log, P: Log + Drop, N: Line> Desk<C, P, N> {
+    // A desk at which a transaction was just opened, with nobody at its seats; without memory for them the log and the line come back.
+    pub fn open(transaction: u32, log: C, line: N, alloc: Global) -> Result<Desk<C, P, N>, (C, N)>
+        ensures { MatchResult result (λ desk. (desk.transaction ≡ transaction) × (is_some desk.right ≡ true) × (world_of C.Log P.Log N.Line desk ≡ at_first (log_of C.Log log) (N.Line.waiting line))) (λ back. (back.0 ≡ log) × (back.1 ≡ line)) }
+    {
+        let Ok(seats) = nobody(alloc) else {
+            return Err((log, line));
+        };
+        let (coordinator, right) = Coordinator::open(transaction);
+        Ok(Desk {
+            transaction,
+            coordinator,
+            log,
+            right: Some(right),
+            seats,
+            line,
+            given: Vec::new(alloc),
+            posted: Vec::new(alloc),
+            taken: Vec::new(alloc),
+            told: Vec::new(alloc),
+        })
+    }
+}
+
+// Seats at which nobody sits.
+fn nobody<P: Drop>(alloc: Global) -> Result<Vec<Party<P>>, AllocError>
+    ensures { MatchResult result (λ seats. seats.items ≡ replicate seat_count Nobody) (λ _. Unit {0}) }
+{
+    let mut seats = Vec::new(alloc);
+    for _ in 0..SEATS {
+        seats.push(Party::Nobody)?;
+    }
+    Ok(seats)
+}
