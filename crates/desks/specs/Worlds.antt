@@ -1,5 +1,5 @@
 -- The world that a desk is in.
-use Rattle.std.specs.Prelude.{Some, None, Option, map, reverse}
+use Rattle.std.specs.Prelude.{ℕ, Some, None, Option, List, map, reverse, slice_index_or}
 use Rattle.agreement.specs.Logs.{log_of}
 use Rattle.agreement.specs.Names.{Kind, Prepare}
 use Rattle.agreement.specs.ParticipantRules.{Part, part}
@@ -8,6 +8,7 @@ use Rattle.agreement.specs.World.{World, world, office, Mail}
 use Rattle.agreement.specs.World as W
 use Rattle.agreement.specs.declared.coordinator.Durability.{Durability}
 use Rattle.agreement.specs.declared.coordinator.Durability.TheVariants as D
+use Rattle.agreement.specs.declared.participant.State.{State as PartState}
 use Rattle.coordinator.specs.Calls.{coord_of}
 use Rattle.desks.specs.declared.desk.Desk.{Desk}
 use Rattle.desks.specs.declared.desk.Party.{Party}
@@ -54,3 +55,20 @@ module _ {C P N : Type 0} (mc : LogMeans C) (mp : LogMeans P) (mn : LineMeans N)
 
   abbrev pub world_of : Desk C P N → World
   world_of d = world (log_of mc d.log) (office (coord_of d.coordinator) (map (party_of mp) d.seats.items) (mail_of d)) (reverse d.told.items)
+
+-- the state of the participant that has joined there
+abbrev pub state_in : W.Party → Option PartState
+state_in W.nobody = None
+state_in W.volatile = None
+state_in W.awaited = None
+state_in (W.joined p) = Some p.state
+
+-- the log of the participant that has joined at seat s
+abbrev pub log_in : {P : Type 0} → Party P → Option P
+log_in Nobody = None
+log_in Volatile = None
+log_in Awaited = None
+log_in (Joined s) = Some s.log
+
+abbrev pub log_at : {P : Type 0} → ℕ → List (Party P) → Option P
+log_at s ps = log_in (slice_index_or ps s Nobody)

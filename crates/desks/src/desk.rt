@@ -61,3 +61,4 @@ mod heading;
 mod joining;
 mod mailing;
 mod opening;
+mod questions;

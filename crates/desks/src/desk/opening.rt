@@ -5,7 +5,7 @@ ghost use Rattle.desks.specs.Worlds.{world_of};
 ghost use Rattle.desks.specs.declared.desk.Party.TheVariants.{Nobody};
 ghost use Rattle.seats.specs.Sizes.{seat_count};
 
-use super::{Desk, Party};
+use super::{BLANK, Desk, PLACES, Party};
 use coordinator::Coordinator;
 use lines::line::Line;
 use logs::log::Log;
@@ -33,6 +33,32 @@ impl<C: Log, P: Log + Drop, N: Line> Desk<C, P, N> {
             taken: Vec::new(alloc),
             told: Vec::new(alloc),
         })
+    }
+
+    // Ends a desk, and gives back the coordinator's log and the line. A closing right that is still there is spent, and nobody hears of it.
+    pub fn close(self) -> (C, N)
+        ensures { result ≡ (self.log, self.line) }
+    {
+        let Desk {
+            transaction: _,
+            mut coordinator,
+            log,
+            right,
+            seats: _,
+            line,
+            given: _,
+            posted: _,
+            taken: _,
+            told: _,
+        } = self;
+        if let Some(right) = right {
+            let mut outbox = [BLANK; PLACES];
+            match coordinator.ask_rollback(right, &mut outbox) {
+                Ok(_) => {}
+                Err(returned) => unreachable(),
+            }
+        }
+        (log, line)
     }
 }
 
