@@ -30,6 +30,7 @@ fn words_of_call(rt: &HostRuntime) -> Result<Vec<String>, Refusal<'static>> {
 // Does what the words of the call ask for: a match, since each command is another call.
 fn run<'a>(rt: &HostRuntime, words: &'a [String]) -> Result<(), Refusal<'a>> {
     match parse(words).ok_or(Refusal::Unknown)? {
+        Command::Step => demonstrate(rt),
         Command::Demonstrate => demonstrate(rt),
         Command::Help => Ok(println!(rt; "{USAGE}")?),
         Command::Journal { file, count } => {
@@ -43,11 +44,15 @@ fn run<'a>(rt: &HostRuntime, words: &'a [String]) -> Result<(), Refusal<'a>> {
             play_queue(rt, places)
         }
         Command::Board => play_board(rt),
+        Command::CoordinatorOnTray => Err(Refusal::Unknown),
+        Command::CoordinatorOnJournal { bytes } => Err(Refusal::Bytes(bytes)),
         Command::ParticipantOnTray => play_store(rt, Tray::new()),
         Command::ParticipantOnJournal { bytes } => {
             let length = bytes.parse::<usize>().map_err(|_| Refusal::Bytes(bytes))?;
             play_store(rt, Journal::create(vec![in rt.alloc(); 0; length]?))
         }
+        Command::Rehearse => Err(Refusal::Unknown),
+        Command::RehearseFile { file } => Err(Refusal::Count(file)),
     }
 }
 

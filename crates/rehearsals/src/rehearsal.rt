@@ -17,5 +17,8 @@ pub enum Unfinished<C, P, N> {
     Halted(Rehearsal<C, P, N>, usize),
 }
 
+mod asking;
 mod making;
 mod playing;
+
+pub use playing::rehearse;

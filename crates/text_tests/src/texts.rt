@@ -67,7 +67,29 @@ fn ask(
 fn calls_are_told_apart(rt: HostRuntime) -> Result<(), Fail> {
     let heap = rt.alloc();
     let journal = |file, count| Some(Command::Journal { file, count });
-    ask(&rt, heap, &[], Some(Command::Demonstrate))?;
+    ask(&rt, heap, &[], Some(Command::Step))?;
+    ask(&rt, heap, &["journal"], Some(Command::Demonstrate))?;
+    ask(&rt, heap, &["rehearse"], Some(Command::Rehearse))?;
+    ask(
+        &rt,
+        heap,
+        &["rehearse", "tray"],
+        Some(Command::RehearseFile { file: "tray" }),
+    )?;
+    ask(&rt, heap, &["rehearse", "f", "g"], None)?;
+    ask(
+        &rt,
+        heap,
+        &["coordinator", "tray"],
+        Some(Command::CoordinatorOnTray),
+    )?;
+    ask(
+        &rt,
+        heap,
+        &["coordinator", "journal", "44"],
+        Some(Command::CoordinatorOnJournal { bytes: "44" }),
+    )?;
+    ask(&rt, heap, &["coordinator"], None)?;
     ask(&rt, heap, &["--help"], Some(Command::Help))?;
     ask(&rt, heap, &["journal", "f", "3"], journal("f", "3"))?;
     ask(&rt, heap, &["journal", "3", "f"], journal("3", "f"))?;
@@ -94,7 +116,6 @@ fn calls_are_told_apart(rt: HostRuntime) -> Result<(), Fail> {
     ask(&rt, heap, &["participant", "tray", "44"], None)?;
     ask(&rt, heap, &["participant", "board"], None)?;
     ask(&rt, heap, &["board", "line"], None)?;
-    ask(&rt, heap, &["journal"], None)?;
     ask(&rt, heap, &["journal", "f"], None)?;
     ask(&rt, heap, &["journal", "f", "3", "x"], None)?;
     ask(&rt, heap, &["journals", "f", "3"], None)?;
