@@ -1,1 +1,2 @@
+mod TableFacts
 mod TurnFacts

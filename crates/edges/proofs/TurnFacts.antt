@@ -1,18 +1,14 @@
 -- The turns of a coordinator whose standing is known, and what is told of them.
 use Rattle.std.proofs.Common.{◌≡◌, ℕ, List, ap, ◌∙◌, Ok, Err, Result, MatchResult}
 use Rattle.agreement.specs.CoordinatorRules.{Coord, coord, CoordTurn, settle}
-use Rattle.agreement.specs.Logs.{LogState}
 use Rattle.agreement.specs.Names.{Place}
 use Rattle.agreement.specs.Turns.{Report, Reply, done, seated, tells, fails, reply_of, report_of}
-use Rattle.agreement.specs.declared.coordinator.Outcome.{Outcome}
 use Rattle.agreement.specs.declared.coordinator.State.{State}
-use Rattle.coordinator.specs.Calls.{Leaves, Settles, coord_of, told_reply}
+use Rattle.coordinator.specs.Calls.{Leaves, Settles, coord_of, registered_reply}
 use Rattle.coordinator.specs.declared.Coordinator.{Coordinator}
-use Rattle.coordinator.specs.declared.answers.Returned.{Returned}
-use Rattle.coordinator.specs.declared.answers.Told.{Told}
+use Rattle.coordinator.specs.declared.answers.Registered.{Registered}
 use Rattle.edges.specs.Standing.{Stands}
 use Rattle.words.specs.declared.fault.Fault.{Fault}
-use Rattle.words.specs.declared.row.Row.{Row}
 
 pub same_coord : (x : State) (ps : List Place) (c : Coordinator) → c.state ≡ x → c.table ≡ ps → coord_of c ≡ coord x ps
 same_coord x ps c e f = ap (λ (y : State). coord y c.table) e ∙ ap (λ (qs : List Place). coord x qs) f
@@ -32,12 +28,7 @@ module _ (f : ℕ → Coord → CoordTurn) (t : ℕ) (x : State) (ps : List Plac
     pub replies : said ≡ (f t (coord x ps)).reply
     replies = l.reply ∙ ap (λ (turn : CoordTurn). turn.reply) turned
 
--- a call that answered so many
-pub answered : {S : Type 0} (r : Result ℕ (Fault S)) (n : ℕ) → reply_of r ≡ done n → r ≡ Ok n
-answered (Ok m) n e = cc
-answered (Err g) n e = cc
-
--- an asking that told so
-pub told : (r : Result Told Returned) (o : Outcome) (n : ℕ) → told_reply r ≡ tells o n → MatchResult r (λ (x : Told). x ≡ record { outcome = o; sent = n }) (λ (x : Returned). ⊥)
-told (Ok x) o n e = cc
-told (Err x) o n e = cc
+-- a registering that gave this seat
+pub given : (r : Result Registered (Fault State)) (s n : ℕ) → registered_reply r ≡ seated s n → MatchResult r (λ (x : Registered). x.seat.value ≡ s) (λ (x : Fault State). ⊥)
+given (Ok x) s n e = cc
+given (Err f) s n e = cc

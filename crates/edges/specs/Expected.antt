@@ -5,6 +5,7 @@ use Rattle.agreement.specs.declared.coordinator.Outcome.TheVariants.{Open}
 use Rattle.agreement.specs.declared.coordinator.Standing.TheVariants.{Idle, Voted}
 use Rattle.agreement.specs.declared.coordinator.State.TheVariants.{VolatileVoting, DurableVoting, Ready, Noted, Committing, Done, Rolled}
 use Rattle.agreement.specs.declared.participant.State.TheVariants.{Noted as VoteNoted, Undone}
+use Rattle.records.specs.Recs.{Rec}
 use Rattle.words.specs.declared.fault.Fault.TheVariants.{InvalidState, CannotRegister, NoPlace}
 use Rattle.words.specs.declared.row.Row.{Row}
 use Rattle.coordinator.specs.declared.answers.Told.{Told}
@@ -75,7 +76,11 @@ voted_with_one = record {
 abbrev pub voted_with_two : VotedCase
 voted_with_two = record { answer = Ok 0; state = VoteNoted; outbox = blank_row ∷ [] }
 
--- a loose Decision with seat 0: where it is lost, the transaction is rolled back, and where it is kept, committed
+-- the Decision of transaction 7 with seat 0
+abbrev pub decision : Rec
+decision = record { transaction = 7; kind = 1; seats = 1 }
+
+-- loose when the power goes: where it is lost, the transaction is rolled back, and where it outlasts the cut, committed
 abbrev pub decision_lost : Restarted
 decision_lost = record { state = Rolled; place = None; records = 0 }
 

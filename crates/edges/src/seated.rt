@@ -1,9 +1,12 @@
-ghost use Rattle.std.specs.Prelude.{◌≡◌};
-ghost use Rattle.agreement.specs.declared.coordinator.Standing.TheVariants.{Asked};
+ghost use Rattle.std.specs.Prelude.{◌≡◌, [], ◌∷◌};
+ghost use Rattle.agreement.specs.declared.coordinator.Standing.TheVariants.{Asked, Voted};
+ghost use Rattle.agreement.specs.declared.coordinator.Durability.TheVariants.{Durable};
+ghost use Rattle.agreement.specs.declared.coordinator.State.TheVariants.{Noted};
+ghost use Rattle.logs.specs.Trays.{safe_in, loose_in};
 ghost use Rattle.words.specs.declared.kind.Kind.TheVariants.{Prepared};
 ghost use Rattle.agreement.specs.Turns.{note, reply_of};
 ghost use Rattle.coordinator.specs.Calls.{Leaves, received, registered, registered_reply};
-ghost use Rattle.edges.specs.Expected.{durable_seats, all_seats, decision_lost, decision_kept};
+ghost use Rattle.edges.specs.Expected.{durable_seats, all_seats, decision, decision_lost, decision_kept};
 ghost use Rattle.edges.specs.Standing.{Stands, voting, one_seat};
 
 use crate::cases::{AllSeats, DurableSeats, Restarted};
@@ -90,16 +93,26 @@ pub(crate) fn register_all() -> AllSeats
     }
 }
 
-// The power goes and comes back behind a loose Decision with seat 0, and the world chooses n.
-pub(crate) fn restart(n: u32) -> Restarted
-    ensures lost { n ≡ 0 → result ≡ decision_lost }
-    ensures kept { n ≡ 1 → result ≡ decision_kept }
+// A coordinator whose Decision, with seat 0, is the one record of its log and loose.
+fn decided() -> (Coordinator, Tray)
+    ensures coordinator { Stands 7 Noted (one_seat Durable Voted) result.0 }
+    ensures safe { safe_in result.1 ≡ [] }
+    ensures loose { loose_in result.1 ≡ decision ∷ [] }
 {
     let mut coordinator = asked(Durability::Durable);
     let _ = hear_vote(&mut coordinator);
     let mut log = Tray::new();
     let mut outbox = OUTBOX;
     let _ = coordinator.settle(&mut log, &mut outbox);
+    (coordinator, log)
+}
+
+// The power goes and comes back behind a loose Decision, and the world chooses n.
+pub(crate) fn restart(n: u32) -> Restarted
+    ensures lost { n ≡ 0 → result ≡ decision_lost }
+    ensures kept { n ≡ 1 → result ≡ decision_kept }
+{
+    let (coordinator, mut log) = decided();
     let coordinator = coordinator.restart(&mut log, n);
     Restarted {
         state: coordinator.state(),
