@@ -1,5 +1,6 @@
 -- The turns of a coordinator whose standing is known, and what is told of them.
-use Rattle.std.proofs.Common.{◌≡◌, ℕ, List, ap, ◌∙◌, Ok, Err, Result, MatchResult}
+use Rattle.std.proofs.Common.{◌≡◌, ℕ, List, refl, ap, ◌∙◌, Ok, Err, Result}
+use Rattle.std.specs.Result.{IsOk}
 use Rattle.agreement.specs.CoordinatorRules.{Coord, coord, CoordTurn, settle}
 use Rattle.agreement.specs.Names.{Place}
 use Rattle.agreement.specs.Turns.{Report, Reply, done, seated, tells, fails, reply_of, report_of}
@@ -28,7 +29,11 @@ module _ (f : ℕ → Coord → CoordTurn) (t : ℕ) (x : State) (ps : List Plac
     pub replies : said ≡ (f t (coord x ps)).reply
     replies = l.reply ∙ ap (λ (turn : CoordTurn). turn.reply) turned
 
--- a registering that gave this seat
-pub given : (r : Result Registered (Fault State)) (s n : ℕ) → registered_reply r ≡ seated s n → MatchResult r (λ (x : Registered). x.seat.value ≡ s) (λ (x : Fault State). ⊥)
-given (Ok x) s n e = cc
-given (Err f) s n e = cc
+-- a registering that gave seat s
+pub is_given : (r : Result Registered (Fault State)) (s n : ℕ) → registered_reply r ≡ seated s n → IsOk r
+is_given (Ok x) s n e = refl
+is_given (Err f) s n e = cc
+
+pub given : (r : Result Registered (Fault State)) (x : Registered) (s n : ℕ) → registered_reply r ≡ seated s n → r ≡ Ok x → x.seat.value ≡ s
+given (Ok y) x s n e f = cc
+given (Err g) x s n e f = cc

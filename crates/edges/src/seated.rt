@@ -21,7 +21,10 @@ use words::kind::Kind;
 use words::notification::Notification;
 
 // Registers a participant.
-fn register(coordinator: &mut Coordinator, durability: Durability) -> Result<Registered, Fault<State>>
+fn register(
+    coordinator: &mut Coordinator,
+    durability: Durability,
+) -> Result<Registered, Fault<State>>
     ensures { Leaves (registered coordinator.old 16 durability) coordinator.old coordinator.new (registered_reply result) }
 {
     let mut outbox = OUTBOX;
