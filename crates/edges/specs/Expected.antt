@@ -64,17 +64,23 @@ stranger_heard = record {
   outbox = row 7 9 3 ∷ replicate 15 blank_row;
 }
 
--- with one place to spare, voting for the step is fault 10 with that one place, Aborted is sent, and the step is undone
+-- with one place to spare, a vote for the step is fault 10, which tells of the one, Aborted is sent, and nothing is written
 abbrev pub voted_with_one : VotedCase
 voted_with_one = record {
   answer = Err (NoPlace 1 1);
   state = Undone;
   outbox = row 7 0 6 ∷ [];
+  spare = 1;
 }
 
--- with two, the Vote is written
+-- with two, the Vote is written, and one is left
 abbrev pub voted_with_two : VotedCase
-voted_with_two = record { answer = Ok 0; state = VoteNoted; outbox = blank_row ∷ [] }
+voted_with_two = record {
+  answer = Ok 0;
+  state = VoteNoted;
+  outbox = blank_row ∷ [];
+  spare = 1;
+}
 
 -- the Decision of transaction 7 with seat 0
 abbrev pub decision : Rec

@@ -66,6 +66,8 @@ pub struct Voted {
     pub answer: Result<usize, Fault<StoreState>>,
     pub state: StoreState,
     pub outbox: [Row; STORE_PLACES],
+    // how many places its log has left
+    pub spare: usize,
 }
 
 // A coordinator that was restarted: its state, the place of seat 0, and how many records its log has.

@@ -97,6 +97,7 @@ pub(crate) fn register_all() -> AllSeats
 }
 
 // A coordinator whose Decision, with seat 0, is the one record of its log and loose.
+#[tactic(auto, unfolding(seats::specs::Sets::bits_of))]
 fn decided() -> (Coordinator, Tray)
     ensures coordinator { Stands 7 Noted (one_seat Durable Voted) result.0 }
     ensures safe { safe_in result.1 ≡ [] }

@@ -53,5 +53,6 @@ pub(crate) fn vote(spare: usize) -> Voted
         answer,
         state: participant.state(),
         outbox,
+        spare: log.spare(),
     }
 }

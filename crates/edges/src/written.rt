@@ -10,6 +10,7 @@ use seats::set::SeatSet;
 const SEATS: u16 = 0b10_0111;
 
 // The bytes of the Decision with these seats.
+#[tactic(auto, unfolding(records::specs::Bytes::rec_bytes, records::specs::Pairs::runs))]
 pub(crate) fn decision() -> [u8; RECORD_BYTES]
     ensures { result ≡ decision_bytes }
 {
