@@ -1,5 +1,5 @@
 -- Durable participants that register one after the other.
-use Rattle.std.proofs.Common.{◌≡◌, ℕ, zero, suc, ◌+◌, ◌-◌, ◌<◌, List, [], ◌∷◌, ◌++◌, Some, None, Option, replicate, set, refl, sym, ap, ◌∙◌, arith}
+use Rattle.std.proofs.Common.{◌≡◌, ℕ, zero, suc, ◌+◌, ◌-◌, ◌<◌, List, [], ◌∷◌, ◌++◌, Some, None, replicate, set, refl, ap, ◌∙◌, arith}
 use Rattle.agreement.specs.CoordinatorRules.{Coord, coord, CoordTurn, vacant_from, seat_at, register}
 use Rattle.agreement.specs.Names.{Place}
 use Rattle.agreement.specs.Turns.{Reply, seated}

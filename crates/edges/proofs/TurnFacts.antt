@@ -1,11 +1,11 @@
 -- The turns of a coordinator whose standing is known, and what is told of them.
 use Rattle.std.proofs.Common.{◌≡◌, ℕ, List, refl, ap, ◌∙◌, Ok, Err, Result}
 use Rattle.std.specs.Result.{IsOk}
-use Rattle.agreement.specs.CoordinatorRules.{Coord, coord, CoordTurn, settle}
+use Rattle.agreement.specs.CoordinatorRules.{Coord, coord, CoordTurn}
 use Rattle.agreement.specs.Names.{Place}
-use Rattle.agreement.specs.Turns.{Report, Reply, done, seated, tells, fails, reply_of, report_of}
+use Rattle.agreement.specs.Turns.{Reply, seated}
 use Rattle.agreement.specs.declared.coordinator.State.{State}
-use Rattle.coordinator.specs.Calls.{Leaves, Settles, coord_of, registered_reply}
+use Rattle.coordinator.specs.Calls.{Leaves, coord_of, registered_reply}
 use Rattle.coordinator.specs.declared.Coordinator.{Coordinator}
 use Rattle.coordinator.specs.declared.answers.Registered.{Registered}
 use Rattle.edges.specs.Standing.{Stands}

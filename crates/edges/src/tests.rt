@@ -102,7 +102,7 @@ fn a_vote_needs_two_places(rt: HostRuntime) {
             answer: Err(Fault::NoPlace { spare: 1, sent: 1 }),
             state: StoreState::Undone,
             outbox: [row(0, 6)],
-        spare: 1,
+            spare: 1,
         }
     );
     assert_eq!(rt;
@@ -111,7 +111,7 @@ fn a_vote_needs_two_places(rt: HostRuntime) {
             answer: Ok(0),
             state: StoreState::Noted,
             outbox: [Row::BLANK],
-        spare: 1,
+            spare: 1,
         }
     );
 }

@@ -1,4 +1,4 @@
-use Rattle.std.proofs.Common.{◌≡◌, ◌+◌, ◌<◌, ◌≤◌}
+use Rattle.std.proofs.Common.{◌≡◌, ◌+◌, ◌<◌}
 use Rattle.agreement.specs.declared.coordinator.State.TheVariants.{Active}
 use Rattle.edges.proofs.TableFacts.{taken}
 use Rattle.edges.proofs.seated.register_all.Given as goal
