@@ -1,2 +1,1 @@
 mod TableFacts
-mod TurnFacts

@@ -1,16 +1,11 @@
 -- Durable participants that register one after the other.
 use Rattle.std.proofs.Common.{◌≡◌, ℕ, zero, suc, ◌+◌, ◌-◌, ◌<◌, List, [], ◌∷◌, ◌++◌, Some, None, replicate, set, refl, ap, ◌∙◌, arith}
-use Rattle.agreement.specs.CoordinatorRules.{Coord, coord, CoordTurn, vacant_from, seat_at, register}
+use Rattle.agreement.specs.CoordinatorRules.{coord, vacant_from, seat_at, register}
 use Rattle.agreement.specs.Names.{Place}
-use Rattle.agreement.specs.Turns.{Reply, seated}
+use Rattle.agreement.specs.Turns.{seated}
 use Rattle.agreement.specs.declared.coordinator.Durability.TheVariants.{Durable}
 use Rattle.agreement.specs.declared.coordinator.Standing.TheVariants.{Idle}
-use Rattle.agreement.specs.declared.coordinator.State.{State}
 use Rattle.agreement.specs.declared.coordinator.State.TheVariants.{Active}
-use Rattle.coordinator.specs.Calls.{Leaves, registered}
-use Rattle.coordinator.specs.declared.Coordinator.{Coordinator}
-use Rattle.edges.proofs.TurnFacts.{stands, replies}
-use Rattle.edges.specs.Standing.{Stands}
 
 abbrev seat : Place
 seat = Some (Durable, Idle)
@@ -39,18 +34,3 @@ next t n h =
     let after : set (taken n) n seat ≡ taken (suc n) = ap (λ (ps : List Place). set ps n seat) (roomy n h) ∙ filled n rest in
     ap (seat_at t Durable (coord Active (taken n))) free
     ∙ ap (λ (ps : List Place). record { after = coord Active ps; sent = []; reply = seated n 0 }) after
-
-pub seats_next : (t n : ℕ) → n < 16 → (c d : Coordinator) (said : Reply State) → Stands t Active (taken n) c → Leaves (registered c 16 Durable) c d said → Stands t Active (taken (n + 1)) d × (said ≡ seated n 0)
-seats_next t n h c d said a l =
-    let f = λ (u : ℕ) (k : Coord). register u 16 Durable k in
-    let b = stands f t Active (taken n) c a d said l in
-    let e = next t n h in
-    let m : suc n ≡ n + 1 = omega arith in
-    let g : (register t 16 Durable (coord Active (taken n))).after.table ≡ taken (n + 1) = ap (λ (turn : CoordTurn). turn.after.table) e ∙ ap taken m in (
-      record {
-        transaction = b.transaction;
-        state = b.state ∙ ap (λ (turn : CoordTurn). turn.after.state) e;
-        table = b.table ∙ g;
-      },
-      replies f t Active (taken n) c a d said l ∙ ap (λ (turn : CoordTurn). turn.reply) e,
-    )

@@ -79,6 +79,7 @@ pub(crate) fn register_durable() -> DurableSeats
 }
 
 // Registers until no seat is vacant, and once more.
+#[tactic(auto, using(crate::proofs::TableFacts::next))]
 pub(crate) fn register_all() -> AllSeats
     ensures { result ≡ all_seats }
 {
