@@ -1,5 +1,5 @@
 -- The world that a desk is in.
-use Rattle.std.specs.Prelude.{ℕ, Some, None, Option, List, map, reverse, slice_index_or}
+use Rattle.std.specs.Prelude.{Some, None, Option, map, reverse}
 use Rattle.agreement.specs.Logs.{log_of}
 use Rattle.agreement.specs.Names.{Kind, Prepare}
 use Rattle.agreement.specs.ParticipantRules.{Part, part}
@@ -62,13 +62,3 @@ state_in W.nobody = None
 state_in W.volatile = None
 state_in W.awaited = None
 state_in (W.joined p) = Some p.state
-
--- the log of the participant that has joined at seat s
-abbrev pub log_in : {P : Type 0} → Party P → Option P
-log_in Nobody = None
-log_in Volatile = None
-log_in Awaited = None
-log_in (Joined s) = Some s.log
-
-abbrev pub log_at : {P : Type 0} → ℕ → List (Party P) → Option P
-log_at s ps = log_in (slice_index_or ps s Nobody)

@@ -1,7 +1,7 @@
 -- Every move that is played is a move of the world, so that a rehearsal comes only to worlds that are reached.
-use Rattle.std.proofs.Common.{◌≡◌, ℕ, List, [], ◌∷◌, ◌++◌, ◌+◌, ◌<◌, length, take, get_or, Some, None, Option, Ok, Err, Result, MatchResult, is_err, Bool, false, refl, sym, ap, subst, ◌∙◌, inl, inr, true}
+use Rattle.std.proofs.Common.{◌≡◌, ℕ, List, [], ◌∷◌, ◌++◌, ◌+◌, ◌<◌, length, take, get_or, Some, None, Option, Ok, Err, Result, MatchResult, is_err, Bool, false, sym, ap, subst, ◌∙◌, inl, inr, true}
 use Rattle.agreement.proofs.Invariant as I
-use Rattle.agreement.specs.Logs.{Fresh, LogState, log_of}
+use Rattle.agreement.specs.Logs.{Fresh, log_of}
 use Rattle.agreement.specs.World.{World, Reached, opening, moving, at_first, Clear}
 use Rattle.agreement.specs.World as W
 use Rattle.rehearsals.specs.Plays.{Agrees, Happened, Heads, Acts, Plays, Step, Opened, Resting, Halts, scene_of}

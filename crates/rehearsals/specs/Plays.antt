@@ -5,11 +5,9 @@ use Rattle.agreement.specs.Logs.{Fresh, log_of}
 use Rattle.agreement.specs.Statement.{NoTwoEndDifferently, DecisionBacked, AnswersStay}
 use Rattle.agreement.specs.World.{World, expires, settles, resends, restarts, seat_in, at_first, Clear}
 use Rattle.agreement.specs.declared.participant.State.{State as PartState}
-use Rattle.agreement.specs.ParticipantRules.{Part}
 use Rattle.rehearsals.specs.Moves.{seat_of}
 use Rattle.desks.specs.Steps.{RegisteredAs, AskedCommit, AskedRollback, AskedOutcome, Headed, HeadReceived, Joined, Acted, ActReceived, Voted, RestartedAt, PostedAt, Said, Took, NotGiven, NotTaken, NotJoined, NotAwaited, CannotSay, places}
 use Rattle.desks.specs.Worlds.{world_of, state_in}
-use Rattle.desks.specs.declared.desk.Party.{Party}
 use Rattle.rehearsals.specs.declared.moves.Call.{Call}
 use Rattle.rehearsals.specs.declared.moves.Call.TheVariants.{Expire, Settle, Resend, Receive, Restart}
 use Rattle.rehearsals.specs.declared.moves.Move.{Move}

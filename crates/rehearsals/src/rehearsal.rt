@@ -1,5 +1,5 @@
-use desks::desk::Desk;
 use crate::trace::Entry;
+use desks::desk::Desk;
 
 // A desk, the logs with which durable participants join, and the trace of what was played.
 pub struct Rehearsal<C, P, N> {

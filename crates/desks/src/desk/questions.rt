@@ -1,9 +1,9 @@
-ghost use Rattle.std.specs.Prelude.{◌≡◌};
-ghost use Rattle.std.specs.Option.{option_map};
-ghost use Rattle.desks.specs.Worlds.{log_at, state_in, world_of};
+ghost use Rattle.std.specs.Prelude.{◌≡◌, slice_index_or};
+ghost use Rattle.desks.specs.Worlds.{state_in, world_of};
+ghost use Rattle.desks.specs.declared.desk.Party.TheVariants.{Nobody};
 ghost use Rattle.agreement.specs.World.{seat_in};
 
-use super::{Desk, Party};
+use super::{Desk, Party, Store};
 use agreement::coordinator::{Outcome, State};
 use agreement::participant;
 use lines::line::Line;
@@ -32,7 +32,7 @@ impl<C: Log, P: Log, N: Line> Desk<C, P, N> {
         ensures { result ≡ state_in (seat_in (world_of C.Log P.Log N.Line self.now).office seat.value) }
     {
         match &self.seats[usize::from(seat.number())] {
-            Party::Joined(store) => Some(store.participant.state()),
+            Party::Joined(store) => Some(store.state()),
             Party::Nobody | Party::Volatile | Party::Awaited => None,
         }
     }
@@ -44,14 +44,11 @@ impl<C: Log, P: Log, N: Line> Desk<C, P, N> {
         &self.log
     }
 
-    // The log of the participant that has joined at a seat, or none.
-    pub fn log_at(&self, seat: Seat) -> Option<&P>
-        ensures { option_map (λ log. log.now) result ≡ log_at seat.value self.now.seats.items }
+    // Who sits at a seat.
+    pub fn party_at(&self, seat: Seat) -> &Party<P>
+        ensures { result.now ≡ slice_index_or self.now.seats.items seat.value Nobody }
     {
-        match &self.seats[usize::from(seat.number())] {
-            Party::Joined(store) => Some(&store.log),
-            Party::Nobody | Party::Volatile | Party::Awaited => None,
-        }
+        &self.seats[usize::from(seat.number())]
     }
 
     // What calls gave, in its order.
@@ -80,5 +77,21 @@ impl<C: Log, P: Log, N: Line> Desk<C, P, N> {
         ensures { result.now ≡ self.now.told.items }
     {
         &self.told
+    }
+}
+
+impl<P> Store<P> {
+    // The participant's state.
+    pub fn state(&self) -> participant::State
+        ensures { result ≡ self.now.participant.state }
+    {
+        self.participant.state()
+    }
+
+    // Its log.
+    pub fn log(&self) -> &P
+        ensures { result.now ≡ self.now.log }
+    {
+        &self.log
     }
 }

@@ -79,8 +79,14 @@ impl<C: Log, P: Log + Drop, N: Line> Rehearsal<C, P, N> {
         Ok(match next {
             Move::Register(durability) => Event::Registered(self.desk.register(durability)?),
             Move::Join(seat) => self.join(seat),
-            Move::AskCommit => self.desk.ask_commit()?.map_or(Event::Impossible, Event::Told),
-            Move::AskRollback => self.desk.ask_rollback()?.map_or(Event::Impossible, Event::Told),
+            Move::AskCommit => self
+                .desk
+                .ask_commit()?
+                .map_or(Event::Impossible, Event::Told),
+            Move::AskRollback => self
+                .desk
+                .ask_rollback()?
+                .map_or(Event::Impossible, Event::Told),
             Move::AskOutcome => Event::Asked(self.desk.outcome()?),
             Move::Coordinator(call) => self.call(call)?,
             Move::Vote(seat, ballot) => self
@@ -88,8 +94,14 @@ impl<C: Log, P: Log + Drop, N: Line> Rehearsal<C, P, N> {
                 .vote_at(seat, ballot)?
                 .map_or(Event::Impossible, Event::Participant),
             Move::Participant(seat, call) => self.call_at(seat, call)?,
-            Move::Post(number) => self.desk.post(number)?.map_or(Event::Impossible, |()| Event::Posted),
-            Move::Say(seat, kind) => self.desk.say(seat, kind)?.map_or(Event::Impossible, |()| Event::Posted),
+            Move::Post(number) => self
+                .desk
+                .post(number)?
+                .map_or(Event::Impossible, |()| Event::Posted),
+            Move::Say(seat, kind) => self
+                .desk
+                .say(seat, kind)?
+                .map_or(Event::Impossible, |()| Event::Posted),
             Move::Take => Event::Took(self.desk.take()?),
         })
     }

@@ -4,9 +4,9 @@ ghost use Rattle.rehearsals.specs.Plays.{Agrees, Halts, Opened, Rehearsed, Resti
 ghost use Rattle.lines.specs.Lines.{Chain};
 
 use super::{Rehearsal, Unfinished};
-use desks::desk::Desk;
 use crate::moves::Move;
 use crate::trace::Entry;
+use desks::desk::Desk;
 use lines::line::Line;
 use logs::log::Log;
 use std::alloc::{AllocError, Global};

@@ -1,4 +1,4 @@
-use Rattle.std.proofs.Common.{subst, sym, take}
+use Rattle.std.proofs.Common.{subst}
 use Rattle.std.proofs.lemmas.List.{take_all}
 use Rattle.rehearsals.proofs.PlayFacts.{agrees, plays-sound, halts-sound, went-on, halted}
 use Rattle.rehearsals.specs.Plays.{Step, scene_of}
