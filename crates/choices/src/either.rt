@@ -52,6 +52,13 @@ impl<A: Log, B: Log> Log for Either<A, B> {
         }
     }
 
+    fn secured(&self) -> usize {
+        match self {
+            Either::First(log) => log.secured(),
+            Either::Second(log) => log.secured(),
+        }
+    }
+
     fn capacity(&self) -> usize {
         match self {
             Either::First(log) => log.capacity(),

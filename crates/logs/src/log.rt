@@ -67,6 +67,10 @@ pub trait Log {
     fn count(&self) -> usize
         ensures { result ≡ length (safe self.now) + length (loose self.now) };
 
+    // How many of them are safe: those come first.
+    fn secured(&self) -> usize
+        ensures { result ≡ length (safe self.now) };
+
     // How many records it can hold.
     fn capacity(&self) -> usize
         ensures { result ≡ capacity self.now };

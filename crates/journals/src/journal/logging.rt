@@ -69,6 +69,10 @@ impl Log for Journal {
         self.used
     }
 
+    fn secured(&self) -> usize {
+        self.secured
+    }
+
     fn capacity(&self) -> usize {
         self.bytes.len() / RECORD_BYTES
     }

@@ -75,6 +75,10 @@ impl<L: Log> Log for Gatherer<L> {
         self.capacity() - self.below.spare().saturating_sub(self.holding)
     }
 
+    fn secured(&self) -> usize {
+        self.below.secured()
+    }
+
     fn capacity(&self) -> usize {
         self.below.capacity()
     }

@@ -70,6 +70,10 @@ impl Log for Tray {
         self.rows.len()
     }
 
+    fn secured(&self) -> usize {
+        self.secured
+    }
+
     fn capacity(&self) -> usize {
         TRAY_ROWS
     }
