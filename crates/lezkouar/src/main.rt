@@ -5,13 +5,18 @@ mod carrying;
 mod playing;
 mod reading;
 mod refusal;
+mod rehearsing;
+mod script;
 mod showing;
+mod staging;
 mod storing;
+mod tracing;
 
 use carrying::{play_board, play_queue};
 use journals::journal::Journal;
 use logs::tray::Tray;
 use refusal::Refusal;
+use rehearsing::{rehearse_file, rehearse_input};
 use showing::{demonstrate, inspect};
 use std::env;
 use std::process::ExitCode;
@@ -51,8 +56,8 @@ fn run<'a>(rt: &HostRuntime, words: &'a [String]) -> Result<(), Refusal<'a>> {
             let length = bytes.parse::<usize>().map_err(|_| Refusal::Bytes(bytes))?;
             play_store(rt, Journal::create(vec![in rt.alloc(); 0; length]?))
         }
-        Command::Rehearse => Err(Refusal::Unknown),
-        Command::RehearseFile { file } => Err(Refusal::Count(file)),
+        Command::Rehearse => rehearse_input(rt),
+        Command::RehearseFile { file } => rehearse_file(rt, file),
     }
 }
 

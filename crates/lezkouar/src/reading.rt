@@ -11,10 +11,9 @@ pub(crate) fn read_notification(
     kind: &str,
 ) -> Result<Notification, Slip> {
     let transaction = transaction.parse::<u32>().map_err(|_| Slip::Transaction)?;
-    let number = seat.parse::<u8>().map_err(|_| Slip::Seat)?;
     Ok(Notification {
         transaction,
-        seat: Seat::new(number).ok_or(Slip::Seat)?,
+        seat: read_seat(seat)?,
         kind: read_kind(kind)?,
     })
 }
@@ -22,4 +21,10 @@ pub(crate) fn read_notification(
 // The kind of this name.
 pub(crate) fn read_kind(name: &str) -> Result<Kind, Slip> {
     name.parse::<Kind>().map_err(|_| Slip::Kind)
+}
+
+// The seat of this number.
+pub(crate) fn read_seat(number: &str) -> Result<Seat, Slip> {
+    let number = number.parse::<u8>().map_err(|_| Slip::Seat)?;
+    Seat::new(number).ok_or(Slip::Seat)
 }

@@ -30,6 +30,28 @@ pub(crate) enum Slip {
     Places,
     #[error("fill takes a number of records from 0 to 4294967295")]
     Fill,
+    #[error("a script begins with 'open T'")]
+    Unopened,
+    #[error("a script opens one transaction")]
+    Reopened,
+    #[error("open takes a transaction, and behind it 'log LOG', 'stores LOG' and 'line LINE': LOG is 'tray', 'journal BYTES' or 'gathered LOG', LINE is 'queue PLACES' or 'board'")]
+    Opening,
+    #[error("a log is gathered twice at most")]
+    Gatherers,
+    #[error("BYTES is a number of bytes")]
+    Bytes,
+    #[error("PLACES is a number of notifications")]
+    QueuePlaces,
+    #[error("a command is 'register', 'join SEAT', 'commit', 'rollback', 'outcome', 'vote SEAT BALLOT', 'settle WHO', 'expire WHO', 'resend WHO', 'cut WHO N', 'say SEAT KIND', 'post', 'post I', 'take', 'receive WHO I', 'deliver' or 'run N'")]
+    Command,
+    #[error("a participant is volatile or durable")]
+    Durability,
+    #[error("the number of a notification counts from 0")]
+    Number,
+    #[error("run takes a number of times from 0 to 4294967295")]
+    Times,
+    #[error("WHO is coordinator or a seat from 0 to 15")]
+    Who,
 }
 
 // Why a call of the program ends with status 1; the words as they were given.
@@ -47,6 +69,12 @@ pub(crate) enum Refusal<'a> {
     Unread { file: &'a str, why: io::Error },
     #[error("{file}: record {record} is malformed or lies outside the file")]
     Malformed { file: &'a str, record: usize },
+    #[error("{0}: the file is no text")]
+    NoText(&'a str),
+    #[error("the script is empty; it begins with 'open T'")]
+    NoScript,
+    #[error("there is no memory to play the script")]
+    Unplayed,
     #[error("line {number}: {slip}")]
     Line { number: u64, slip: Slip },
     #[error(transparent)]

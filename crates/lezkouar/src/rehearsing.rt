@@ -1,0 +1,116 @@
+// Rehearses a step from a script: its commands are worked out into moves beside, and then one call plays them all and promises agreement of what it played.
+use crate::refusal::Refusal;
+use crate::script::{LineChoice, Opening, Script};
+use crate::staging::{AnyLog, Staging};
+use crate::tracing::{Ending, how_ended, print_summary, print_trace};
+use boards::board::Board;
+use lines::line::Line;
+use lines::queue::Queue;
+use rehearsals::moves::Move;
+use rehearsals::rehearsal::{Rehearsal, Unfinished, rehearse};
+use std::alloc::Global;
+use std::{fs, str};
+use words::row::Row;
+
+// Rehearses the step of a script on standard input.
+pub(crate) fn rehearse_input(rt: &HostRuntime) -> Result<(), Refusal<'static>> {
+    let mut script = Script::new(rt.alloc());
+    for (number, line) in (1u64..).zip(rt.lines(rt.alloc())) {
+        script.read(rt.alloc(), number, line?.as_str())?;
+    }
+    perform(rt, &script)?;
+    Ok(())
+}
+
+// Rehearses the step of a script in a file.
+pub(crate) fn rehearse_file<'a>(rt: &HostRuntime, file: &'a str) -> Result<(), Refusal<'a>> {
+    let bytes = fs::read(rt, file).map_err(|why| Refusal::Unread { file, why })?;
+    let text = str::from_utf8(&bytes).map_err(|_| Refusal::NoText(file))?;
+    rehearse_text(rt, text)?;
+    Ok(())
+}
+
+// Rehearses the step of a script, and tells how those ended that did.
+pub(crate) fn rehearse_text(rt: &HostRuntime, text: &str) -> Result<Ending, Refusal<'static>> {
+    let mut script = Script::new(rt.alloc());
+    for (number, line) in (1u64..).zip(text.lines()) {
+        script.read(rt.alloc(), number, line)?;
+    }
+    perform(rt, &script)
+}
+
+// Rehearses a script that was read.
+fn perform(rt: &HostRuntime, script: &Script) -> Result<Ending, Refusal<'static>> {
+    let Some(opening) = script.opening else {
+        return Err(Refusal::NoScript);
+    };
+    match opening.line {
+        LineChoice::Board => {
+            let moves = work_out(rt.alloc(), script, opening, Board::new())?;
+            play(rt, script, opening, Board::new(), &moves)
+        }
+        LineChoice::Queue(places) => {
+            let mut rows = vec![in rt.alloc(); Row::BLANK; places]?;
+            let moves = work_out(rt.alloc(), script, opening, Queue::new(&mut rows))?;
+            play(rt, script, opening, Queue::new(&mut rows), &moves)
+        }
+    }
+}
+
+// The moves that the commands of a script come to.
+fn work_out<N: Line + Drop>(
+    alloc: Global,
+    script: &Script,
+    opening: Opening,
+    line: N,
+) -> Result<Vec<Move>, Refusal<'static>> {
+    let log = opening.log.make(alloc)?;
+    let logs = opening.stores.make_all(script.joins(), alloc)?;
+    let rehearsal = match Rehearsal::open(opening.transaction, log, line, logs, alloc) {
+        Ok(rehearsal) => rehearsal,
+        Err(_) => return Err(Refusal::Unplayed),
+    };
+    let mut staging = Staging::of(rehearsal, alloc);
+    let followed = staging.follow(script);
+    let moves = staging.end();
+    followed?;
+    Ok(moves)
+}
+
+// Plays the moves in one call, and prints the trace and how it ended.
+fn play<N: Line + Drop>(
+    rt: &HostRuntime,
+    script: &Script,
+    opening: Opening,
+    line: N,
+    moves: &[Move],
+) -> Result<Ending, Refusal<'static>> {
+    let alloc = rt.alloc();
+    let log = opening.log.make(alloc)?;
+    let logs = opening.stores.make_all(script.joins(), alloc)?;
+    let rehearsal = match rehearse(opening.transaction, log, line, logs, moves, alloc) {
+        Ok(rehearsal) => rehearsal,
+        Err(Unfinished::NotOpened(_, _, _)) => return Err(Refusal::Unplayed),
+        Err(Unfinished::Halted(rehearsal, _)) => {
+            rehearsal.close();
+            return Err(Refusal::Unplayed);
+        }
+    };
+    let printed = print_all(rt, moves, &rehearsal);
+    let ending = how_ended(rehearsal.desk());
+    rehearsal.close();
+    printed?;
+    Ok(ending)
+}
+
+// Prints the trace and the summary.
+fn print_all<N: Line>(
+    rt: &HostRuntime,
+    moves: &[Move],
+    rehearsal: &Rehearsal<AnyLog, AnyLog, N>,
+) -> Result<(), Refusal<'static>> {
+    print_trace(rt, moves, rehearsal.trace(), rehearsal.desk())?;
+    println!(rt; "summary")?;
+    print_summary(rt, rehearsal.desk())?;
+    Ok(())
+}

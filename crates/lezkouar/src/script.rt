@@ -1,0 +1,294 @@
+// Scripts of rehearsals: what each line asks for.
+use crate::reading::{read_kind, read_seat};
+use crate::refusal::{Refusal, Slip};
+use agreement::coordinator::Durability;
+use rehearsals::moves::{Call, Move};
+use std::alloc::Global;
+
+// How many places a line has where the script does not say.
+const QUEUE_PLACES: usize = 64;
+
+// The log at the bottom.
+#[derive(Clone, Copy, PartialEq, Eq)]
+pub(crate) enum Bottom {
+    Tray,
+    // a journal of so many bytes
+    Journal(usize),
+}
+
+// How many gatherers lie over it.
+#[derive(Clone, Copy, PartialEq, Eq)]
+pub(crate) enum Gatherers {
+    Zero,
+    One,
+    Two,
+}
+
+// A kind of log.
+#[derive(Clone, Copy, PartialEq, Eq)]
+pub(crate) struct LogChoice {
+    pub(crate) bottom: Bottom,
+    pub(crate) gatherers: Gatherers,
+}
+
+impl LogChoice {
+    const TRAY: LogChoice = LogChoice {
+        bottom: Bottom::Tray,
+        gatherers: Gatherers::Zero,
+    };
+
+    // The same under one gatherer more.
+    fn gathered(self) -> Result<LogChoice, Slip> {
+        let gatherers = match self.gatherers {
+            Gatherers::Zero => Gatherers::One,
+            Gatherers::One => Gatherers::Two,
+            Gatherers::Two => return Err(Slip::Gatherers),
+        };
+        Ok(LogChoice { gatherers, ..self })
+    }
+}
+
+// A kind of line.
+#[derive(Clone, Copy, PartialEq, Eq)]
+pub(crate) enum LineChoice {
+    // a queue of so many places
+    Queue(usize),
+    Board,
+}
+
+// What a script opens.
+#[derive(Clone, Copy)]
+pub(crate) struct Opening {
+    pub(crate) transaction: u32,
+    pub(crate) log: LogChoice,
+    pub(crate) stores: LogChoice,
+    pub(crate) line: LineChoice,
+}
+
+// What a line of a script asks for, behind the opening.
+#[derive(Clone, Copy)]
+pub(crate) enum Command {
+    Move(Move),
+    // All that the last call gave is posted.
+    PostLast,
+    // One notification is taken, handed to whom it is for, and what that gives is posted.
+    Deliver,
+    // So many times at most: every party settles and posts, and one notification is delivered.
+    Run(u32),
+}
+
+// A script, read whole before anything is done.
+#[derive(Drop)]
+pub(crate) struct Script {
+    pub(crate) opening: Option<Opening>,
+    pub(crate) commands: Vec<Command>,
+}
+
+impl Script {
+    // A script without lines.
+    pub(crate) fn new(alloc: Global) -> Script {
+        Script {
+            opening: None,
+            commands: Vec::new(alloc),
+        }
+    }
+
+    // Reads a line, which has this number; a line without words asks for nothing.
+    pub(crate) fn read(
+        &mut self,
+        alloc: Global,
+        number: u64,
+        line: &str,
+    ) -> Result<(), Refusal<'static>> {
+        let mut words = Vec::new(alloc);
+        for word in line.split('#').next().unwrap_or("").split_whitespace() {
+            words.push(word)?;
+        }
+        let asked = read_words(&words, self.opening.is_some()).map_err(|slip| Refusal::Line {
+            number,
+            slip,
+        })?;
+        match asked {
+            Asked::Nothing => {}
+            Asked::Opening(opening) => self.opening = Some(opening),
+            Asked::Command(command) => self.commands.push(command)?,
+        }
+        Ok(())
+    }
+
+    // How many logs the durable participants of the script join with at most.
+    pub(crate) fn joins(&self) -> usize {
+        let joins = |command: &&Command| matches!(command, Command::Move(Move::Join(_)));
+        self.commands.iter().filter(joins).count()
+    }
+}
+
+// What a line asks for.
+#[derive(Clone, Copy)]
+enum Asked {
+    Nothing,
+    Opening(Opening),
+    Command(Command),
+}
+
+// What these words ask for, behind an opening or not.
+fn read_words(words: &[&str], opened: bool) -> Result<Asked, Slip> {
+    let [first, rest @ ..] = words else {
+        return Ok(Asked::Nothing);
+    };
+    match (*first, opened) {
+        ("open", false) => Ok(Asked::Opening(read_opening(rest)?)),
+        ("open", true) => Err(Slip::Reopened),
+        (_, false) => Err(Slip::Unopened),
+        (first, true) => Ok(Asked::Command(read_command(first, rest)?)),
+    }
+}
+
+// Whose log is chosen.
+#[derive(Clone, Copy, PartialEq, Eq)]
+enum Whose {
+    Coordinators,
+    Stores,
+}
+
+// What the next word of an opening may be.
+#[derive(Clone, Copy, PartialEq, Eq)]
+enum Awaited {
+    Part,
+    Log(Whose),
+    Bytes(Whose),
+    Line,
+    Places,
+}
+
+impl Opening {
+    // The log that is chosen.
+    fn choice(&mut self, whose: Whose) -> &mut LogChoice {
+        match whose {
+            Whose::Coordinators => &mut self.log,
+            Whose::Stores => &mut self.stores,
+        }
+    }
+
+    // Takes the next word, and tells what may follow it.
+    fn take(&mut self, awaited: Awaited, word: &str) -> Result<Awaited, Slip> {
+        match (awaited, word) {
+            (Awaited::Part, "log") => Ok(Awaited::Log(Whose::Coordinators)),
+            (Awaited::Part, "stores") => Ok(Awaited::Log(Whose::Stores)),
+            (Awaited::Part, "line") => Ok(Awaited::Line),
+            (Awaited::Log(whose), "gathered") => {
+                let choice = self.choice(whose);
+                *choice = choice.gathered()?;
+                Ok(Awaited::Log(whose))
+            }
+            (Awaited::Log(_), "tray") => Ok(Awaited::Part),
+            (Awaited::Log(whose), "journal") => Ok(Awaited::Bytes(whose)),
+            (Awaited::Bytes(whose), bytes) => {
+                let bytes = bytes.parse().map_err(|_| Slip::Bytes)?;
+                self.choice(whose).bottom = Bottom::Journal(bytes);
+                Ok(Awaited::Part)
+            }
+            (Awaited::Line, "board") => {
+                self.line = LineChoice::Board;
+                Ok(Awaited::Part)
+            }
+            (Awaited::Line, "queue") => Ok(Awaited::Places),
+            (Awaited::Places, places) => {
+                self.line = LineChoice::Queue(places.parse().map_err(|_| Slip::QueuePlaces)?);
+                Ok(Awaited::Part)
+            }
+            _ => Err(Slip::Opening),
+        }
+    }
+}
+
+// The opening that the words behind 'open' ask for.
+fn read_opening(words: &[&str]) -> Result<Opening, Slip> {
+    let [transaction, rest @ ..] = words else {
+        return Err(Slip::Opening);
+    };
+    let mut opening = Opening {
+        transaction: transaction.parse().map_err(|_| Slip::Transaction)?,
+        log: LogChoice::TRAY,
+        stores: LogChoice::TRAY,
+        line: LineChoice::Queue(QUEUE_PLACES),
+    };
+    let mut awaited = Awaited::Part;
+    for word in rest {
+        awaited = opening.take(awaited, word)?;
+    }
+    match awaited {
+        Awaited::Part => Ok(opening),
+        _ => Err(Slip::Opening),
+    }
+}
+
+// The command that a word with these behind it asks for.
+fn read_command(first: &str, rest: &[&str]) -> Result<Command, Slip> {
+    match rest {
+        [] => read_plain(first),
+        [word] => read_with_one(first, word),
+        [word, other] => Ok(Command::Move(read_with_two(first, word, other)?)),
+        _ => Err(Slip::Command),
+    }
+}
+
+// The command of one word.
+fn read_plain(word: &str) -> Result<Command, Slip> {
+    match word {
+        "commit" => Ok(Command::Move(Move::AskCommit)),
+        "rollback" => Ok(Command::Move(Move::AskRollback)),
+        "outcome" => Ok(Command::Move(Move::AskOutcome)),
+        "take" => Ok(Command::Move(Move::Take)),
+        "post" => Ok(Command::PostLast),
+        "deliver" => Ok(Command::Deliver),
+        _ => Err(Slip::Command),
+    }
+}
+
+// The command of a word with one behind it.
+fn read_with_one(first: &str, word: &str) -> Result<Command, Slip> {
+    match first {
+        "run" => Ok(Command::Run(word.parse().map_err(|_| Slip::Times)?)),
+        "register" => Ok(Command::Move(Move::Register(read_durability(word)?))),
+        "join" => Ok(Command::Move(Move::Join(read_seat(word)?))),
+        "post" => Ok(Command::Move(Move::Post(read_number(word)?))),
+        "settle" => Ok(Command::Move(made_by(word, Call::Settle)?)),
+        "expire" => Ok(Command::Move(made_by(word, Call::Expire)?)),
+        "resend" => Ok(Command::Move(made_by(word, Call::Resend)?)),
+        _ => Err(Slip::Command),
+    }
+}
+
+// The move of a word with two behind it.
+fn read_with_two(first: &str, word: &str, other: &str) -> Result<Move, Slip> {
+    match first {
+        "vote" => Ok(Move::Vote(read_seat(word)?, other.parse().map_err(Slip::Ballot)?)),
+        "say" => Ok(Move::Say(read_seat(word)?, read_kind(other)?)),
+        "cut" => made_by(word, Call::Restart(other.parse().map_err(|_| Slip::Cut)?)),
+        "receive" => made_by(word, Call::Receive(read_number(other)?)),
+        _ => Err(Slip::Command),
+    }
+}
+
+// The durability of this name.
+fn read_durability(name: &str) -> Result<Durability, Slip> {
+    match name {
+        "volatile" => Ok(Durability::Volatile),
+        "durable" => Ok(Durability::Durable),
+        _ => Err(Slip::Durability),
+    }
+}
+
+// The number of a notification.
+fn read_number(word: &str) -> Result<usize, Slip> {
+    word.parse().map_err(|_| Slip::Number)
+}
+
+// A call of the coordinator, or of the participant at a seat.
+fn made_by(who: &str, call: Call) -> Result<Move, Slip> {
+    match who {
+        "coordinator" => Ok(Move::Coordinator(call)),
+        seat => Ok(Move::Participant(read_seat(seat).map_err(|_| Slip::Who)?, call)),
+    }
+}
