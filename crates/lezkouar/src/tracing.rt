@@ -261,7 +261,7 @@ impl Ending {
 }
 
 // How the parties at a desk ended.
-pub(crate) fn ending<C: Log, P: Log + Drop, N: Line>(desk: &Desk<C, P, N>) -> Ending {
+pub(crate) fn how_ended<C: Log, P: Log + Drop, N: Line>(desk: &Desk<C, P, N>) -> Ending {
     let mut ending = Ending::of_coordinator(desk.state());
     for number in 0..SEATS {
         if let Some(state) = Seat::new(number).and_then(|seat| desk.state_at(seat)) {
