@@ -1,4 +1,4 @@
-// lezkouar: shows what a journal holds after a power cut, prints the records of a journal file, and plays a line or a participant from standard input.
+// lezkouar: rehearses steps from scripts, plays a coordinator, a participant or a line from standard input, and prints the records of journals.
 #![tactic(auto)]
 
 mod carrying;
@@ -9,6 +9,7 @@ mod rehearsing;
 mod script;
 mod showing;
 mod staging;
+mod step;
 mod storing;
 mod tracing;
 
@@ -20,6 +21,7 @@ use rehearsing::{rehearse_file, rehearse_input};
 use showing::{demonstrate, inspect};
 use std::env;
 use std::process::ExitCode;
+use step::rehearse_step;
 use storing::play_store;
 use wording::call::{Command, USAGE, parse};
 
@@ -35,7 +37,7 @@ fn words_of_call(rt: &HostRuntime) -> Result<Vec<String>, Refusal<'static>> {
 // Does what the words of the call ask for: a match, since each command is another call.
 fn run<'a>(rt: &HostRuntime, words: &'a [String]) -> Result<(), Refusal<'a>> {
     match parse(words).ok_or(Refusal::Unknown)? {
-        Command::Step => demonstrate(rt),
+        Command::Step => rehearse_step(rt),
         Command::Demonstrate => demonstrate(rt),
         Command::Help => Ok(println!(rt; "{USAGE}")?),
         Command::Journal { file, count } => {

@@ -26,14 +26,15 @@ pub(crate) fn rehearse_input(rt: &HostRuntime) -> Result<(), Refusal<'static>> {
 pub(crate) fn rehearse_file<'a>(rt: &HostRuntime, file: &'a str) -> Result<(), Refusal<'a>> {
     let bytes = fs::read(rt, file).map_err(|why| Refusal::Unread { file, why })?;
     let text = str::from_utf8(&bytes).map_err(|_| Refusal::NoText(file))?;
-    rehearse_text(rt, text)?;
+    rehearse_parts(rt, &[text])?;
     Ok(())
 }
 
-// Rehearses the step of a script, and tells how those ended that did.
-pub(crate) fn rehearse_text(rt: &HostRuntime, text: &str) -> Result<Ending, Refusal<'static>> {
+// Rehearses the step of a script that comes in parts, and tells how those ended that did.
+pub(crate) fn rehearse_parts(rt: &HostRuntime, parts: &[&str]) -> Result<Ending, Refusal<'static>> {
     let mut script = Script::new(rt.alloc());
-    for (number, line) in (1u64..).zip(text.lines()) {
+    let lines = parts.iter().flat_map(|part| part.lines());
+    for (number, line) in (1u64..).zip(lines) {
         script.read(rt.alloc(), number, line)?;
     }
     perform(rt, &script)
