@@ -88,7 +88,7 @@ impl<N: Line> Staging<N> {
                 Command::Move(next) => {
                     self.make(next)?;
                 }
-                Command::PostLast => self.post_last()?,
+                Command::PostLast => self.post_asked()?,
                 Command::Deliver => {
                     self.deliver()?;
                 }
@@ -123,6 +123,14 @@ impl<N: Line> Staging<N> {
                 || entry.participant != participant
                 || entry.given != given,
         )
+    }
+
+    // Posts all that the last call gave; where it gave nothing, a notification is posted that there is not, so that the trace says so.
+    fn post_asked(&mut self) -> Result<(), AllocError> {
+        if self.from == self.to {
+            self.make(Move::Post(self.to))?;
+        }
+        self.post_last()
     }
 
     // Posts all that the last call gave, in its order.
