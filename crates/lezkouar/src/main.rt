@@ -1,7 +1,9 @@
 // lezkouar: rehearses steps from scripts, plays a coordinator, a participant or a line from standard input, and prints the records of journals.
 #![tactic(auto)]
 
+mod calling;
 mod carrying;
+mod coordinating;
 mod playing;
 mod reading;
 mod refusal;
@@ -14,6 +16,7 @@ mod storing;
 mod tracing;
 
 use carrying::{play_board, play_queue};
+use coordinating::play_coordinator;
 use journals::journal::Journal;
 use logs::tray::Tray;
 use refusal::Refusal;
@@ -34,6 +37,12 @@ fn words_of_call(rt: &HostRuntime) -> Result<Vec<String>, Refusal<'static>> {
     Ok(words)
 }
 
+// A journal of so many bytes, without records.
+fn journal<'a>(rt: &HostRuntime, bytes: &'a str) -> Result<Journal, Refusal<'a>> {
+    let length = bytes.parse::<usize>().map_err(|_| Refusal::Bytes(bytes))?;
+    Ok(Journal::create(vec![in rt.alloc(); 0; length]?))
+}
+
 // Does what the words of the call ask for: a match, since each command is another call.
 fn run<'a>(rt: &HostRuntime, words: &'a [String]) -> Result<(), Refusal<'a>> {
     match parse(words).ok_or(Refusal::Unknown)? {
@@ -51,13 +60,10 @@ fn run<'a>(rt: &HostRuntime, words: &'a [String]) -> Result<(), Refusal<'a>> {
             play_queue(rt, places)
         }
         Command::Board => play_board(rt),
-        Command::CoordinatorOnTray => Err(Refusal::Unknown),
-        Command::CoordinatorOnJournal { bytes } => Err(Refusal::Bytes(bytes)),
+        Command::CoordinatorOnTray => play_coordinator(rt, Tray::new()),
+        Command::CoordinatorOnJournal { bytes } => play_coordinator(rt, journal(rt, bytes)?),
         Command::ParticipantOnTray => play_store(rt, Tray::new()),
-        Command::ParticipantOnJournal { bytes } => {
-            let length = bytes.parse::<usize>().map_err(|_| Refusal::Bytes(bytes))?;
-            play_store(rt, Journal::create(vec![in rt.alloc(); 0; length]?))
-        }
+Command::ParticipantOnJournal { bytes } => play_store(rt, journal(rt, bytes)?),
         Command::Rehearse => rehearse_input(rt),
         Command::RehearseFile { file } => rehearse_file(rt, file),
     }

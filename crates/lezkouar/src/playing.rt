@@ -21,7 +21,7 @@ pub(crate) fn play_all<P: Play>(rt: &HostRuntime, game: &mut P) -> Result<(), Re
             .read(line.as_str())
             .map_err(|slip| Refusal::Line { number, slip })?;
         if let Some(step) = step {
-            game.take(rt, step)?;
+            game.take(rt, step).map_err(|why| why.at_line(number))?;
         }
     }
     Ok(())

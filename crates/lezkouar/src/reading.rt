@@ -10,21 +10,20 @@ pub(crate) fn read_notification(
     seat: &str,
     kind: &str,
 ) -> Result<Notification, Slip> {
-    let transaction = transaction.parse::<u32>().map_err(|_| Slip::Transaction)?;
     Ok(Notification {
-        transaction,
+        transaction: transaction.parse().map_err(|_| Slip::Transaction)?,
         seat: read_seat(seat)?,
         kind: read_kind(kind)?,
     })
-}
-
-// The kind of this name.
-pub(crate) fn read_kind(name: &str) -> Result<Kind, Slip> {
-    name.parse::<Kind>().map_err(|_| Slip::Kind)
 }
 
 // The seat of this number.
 pub(crate) fn read_seat(number: &str) -> Result<Seat, Slip> {
     let number = number.parse::<u8>().map_err(|_| Slip::Seat)?;
     Seat::new(number).ok_or(Slip::Seat)
+}
+
+// The kind of this name.
+pub(crate) fn read_kind(name: &str) -> Result<Kind, Slip> {
+    name.parse::<Kind>().map_err(|_| Slip::Kind)
 }

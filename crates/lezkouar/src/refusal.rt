@@ -13,9 +13,13 @@ pub(crate) enum Slip {
     #[error("post takes a transaction, a seat and a kind")]
     PostParts,
     #[error("a call is 'receive', 'vote', 'settle', 'expire', 'resend', 'cut N', 'outbox N', 'fill N' or 'log'")]
-    Act,
+    ParticipantCall,
+    #[error("a call is 'register', 'commit', 'rollback', 'outcome', 'receive', 'settle', 'expire', 'resend', 'cut N', 'outbox N', 'fill N' or 'log'")]
+    CoordinatorCall,
     #[error("receive takes a kind, or a transaction, a seat and a kind")]
     ReceiveParts,
+    #[error("receive takes a seat and a kind, or a transaction, a seat and a kind")]
+    ReceiveSeatParts,
     #[error("a transaction is a number from 0 to 4294967295")]
     Transaction,
     #[error("a seat is a number from 0 to 15")]
@@ -24,6 +28,10 @@ pub(crate) enum Slip {
     Kind,
     #[error("{0}")]
     Ballot(UnknownBallot),
+    #[error("register takes volatile or durable")]
+    Durability,
+    #[error("the closing right is spent: commit or rollback was asked already")]
+    Spent,
     #[error("cut takes a number from 0 to 4294967295")]
     Cut,
     #[error("outbox takes a number of places from 0 to 16")]
@@ -77,8 +85,21 @@ pub(crate) enum Refusal<'a> {
     Unplayed,
     #[error("line {number}: {slip}")]
     Line { number: u64, slip: Slip },
+    // The same, where the number of the line is still to be told.
+    #[error(transparent)]
+    Slip(#[from] Slip),
     #[error(transparent)]
     Memory(#[from(alloc)] AllocError),
     #[error(transparent)]
     System(#[from] io::Error),
+}
+
+impl Refusal<'_> {
+    // The refusal, told of a line of input.
+    pub(crate) fn at_line(self, number: u64) -> Self {
+        match self {
+            Refusal::Slip(slip) => Refusal::Line { number, slip },
+            other => other,
+        }
+    }
 }
