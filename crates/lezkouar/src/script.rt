@@ -1,7 +1,6 @@
 // Scripts of rehearsals: what each line asks for.
-use crate::reading::{read_kind, read_seat};
+use crate::reading::{read_durability, read_kind, read_seat};
 use crate::refusal::{Refusal, Slip};
-use agreement::coordinator::Durability;
 use rehearsals::moves::{Call, Move};
 use std::alloc::Global;
 
@@ -268,15 +267,6 @@ fn read_with_two(first: &str, word: &str, other: &str) -> Result<Move, Slip> {
         "cut" => made_by(word, Call::Restart(other.parse().map_err(|_| Slip::Cut)?)),
         "receive" => made_by(word, Call::Receive(read_number(other)?)),
         _ => Err(Slip::Command),
-    }
-}
-
-// The durability of this name.
-fn read_durability(name: &str) -> Result<Durability, Slip> {
-    match name {
-        "volatile" => Ok(Durability::Volatile),
-        "durable" => Ok(Durability::Durable),
-        _ => Err(Slip::Durability),
     }
 }
 
