@@ -98,10 +98,20 @@ impl fmt::Display for Extra {
     fn fmt<W: fmt::Write>(&self, f: &mut fmt::Formatter<W>) -> fmt::Result {
         match *self {
             Extra::Seat(seat) => write!(f, "seat {seat}"),
-            Extra::Outcome(Outcome::Open) => f.write_str("outcome Open"),
-            Extra::Outcome(Outcome::Committed) => f.write_str("outcome Committed"),
-            Extra::Outcome(Outcome::Aborted) => f.write_str("outcome Aborted"),
+            Extra::Outcome(outcome) => {
+                let name = outcome_name(outcome);
+                write!(f, "outcome {name}")
+            }
         }
+    }
+}
+
+// The name of an outcome.
+pub(crate) fn outcome_name(outcome: Outcome) -> &'static str {
+    match outcome {
+        Outcome::Open => "Open",
+        Outcome::Committed => "Committed",
+        Outcome::Aborted => "Aborted",
     }
 }
 

@@ -3,7 +3,7 @@ ghost use Rattle.desks.specs.Own.{RightOwn};
 
 use crate::calling::{Act, Extra, Lent, PLACES, TRANSACTION, read_act, words_of};
 use crate::playing::{Play, play_all};
-use crate::reading::{read_kind, read_seat};
+use crate::reading::{read_durability, read_kind, read_seat};
 use crate::refusal::{Refusal, Slip};
 use agreement::coordinator::{Durability, State};
 use coordinator::{ClosingRight, Coordinator, Returned, Told};
@@ -23,15 +23,6 @@ enum Asking {
 
 // What a call answered: what it says beside what it sent, and how many notifications these are, or its fault.
 type Answer = (Option<Extra>, Result<usize, Fault<State>>);
-
-// The durability of this name.
-fn read_durability(name: &str) -> Result<Durability, Slip> {
-    match name {
-        "volatile" => Ok(Durability::Volatile),
-        "durable" => Ok(Durability::Durable),
-        _ => Err(Slip::Durability),
-    }
-}
 
 // How its transaction is closed.
 #[derive(Clone, Copy)]

@@ -63,7 +63,7 @@ fn run<'a>(rt: &HostRuntime, words: &'a [String]) -> Result<(), Refusal<'a>> {
         Command::CoordinatorOnTray => play_coordinator(rt, Tray::new()),
         Command::CoordinatorOnJournal { bytes } => play_coordinator(rt, journal(rt, bytes)?),
         Command::ParticipantOnTray => play_store(rt, Tray::new()),
-Command::ParticipantOnJournal { bytes } => play_store(rt, journal(rt, bytes)?),
+        Command::ParticipantOnJournal { bytes } => play_store(rt, journal(rt, bytes)?),
         Command::Rehearse => rehearse_input(rt),
         Command::RehearseFile { file } => rehearse_file(rt, file),
     }

@@ -1,5 +1,6 @@
 // Reads the words of a line of input.
 use crate::refusal::Slip;
+use agreement::coordinator::Durability;
 use seats::seat::Seat;
 use words::kind::Kind;
 use words::notification::Notification;
@@ -26,4 +27,13 @@ pub(crate) fn read_seat(number: &str) -> Result<Seat, Slip> {
 // The kind of this name.
 pub(crate) fn read_kind(name: &str) -> Result<Kind, Slip> {
     name.parse::<Kind>().map_err(|_| Slip::Kind)
+}
+
+// The durability of this name.
+pub(crate) fn read_durability(name: &str) -> Result<Durability, Slip> {
+    match name {
+        "volatile" => Ok(Durability::Volatile),
+        "durable" => Ok(Durability::Durable),
+        _ => Err(Slip::Durability),
+    }
 }

@@ -1,5 +1,6 @@
 // Prints the trace of a rehearsal, a line for each move, and how it ended.
-use agreement::coordinator::{Outcome, State};
+use crate::calling::{Extra, outcome_name};
+use agreement::coordinator::State;
 use agreement::participant;
 use desks::desk::{Desk, Party};
 use lines::line::Line;
@@ -109,14 +110,19 @@ fn print_call(rt: &HostRuntime, entry: &Entry) -> io::Result<()> {
     }
     let fault = fault_of(entry.event);
     print!(rt; ", fault {fault}")?;
-    match entry.event {
-        Event::Registered(Ok(registered)) => {
-            let seat = registered.seat;
-            print!(rt; ", seat {seat}")
-        }
-        Event::Told(told) => print_outcome(rt, told.outcome),
-        Event::Asked(outcome) => print_outcome(rt, outcome),
-        _ => Ok(()),
+    match extra_of(entry.event) {
+        Some(extra) => print!(rt; ", {extra}"),
+        None => Ok(()),
+    }
+}
+
+// What a call answered beside what it gave.
+fn extra_of(event: Event) -> Option<Extra> {
+    match event {
+        Event::Registered(Ok(registered)) => Some(Extra::Seat(registered.seat)),
+        Event::Told(told) => Some(Extra::Outcome(told.outcome)),
+        Event::Asked(outcome) => Some(Extra::Outcome(outcome)),
+        _ => None,
     }
 }
 
@@ -126,20 +132,6 @@ fn fault_of(event: Event) -> u8 {
         Event::Registered(Err(fault)) | Event::Coordinator(Err(fault)) => fault.number(),
         Event::Participant(Err(fault)) => fault.number(),
         _ => 0,
-    }
-}
-
-fn print_outcome(rt: &HostRuntime, outcome: Outcome) -> io::Result<()> {
-    let word = name_of(outcome);
-    print!(rt; ", outcome {word}")
-}
-
-// The name of an outcome.
-fn name_of(outcome: Outcome) -> &'static str {
-    match outcome {
-        Outcome::Open => "Open",
-        Outcome::Committed => "Committed",
-        Outcome::Aborted => "Aborted",
     }
 }
 
@@ -179,7 +171,7 @@ pub(crate) fn print_summary<C: Log, P: Log + Drop, N: Line>(
     }
     for (number, outcome) in desk.told().iter().enumerate() {
         let comma = if number == 0 { "" } else { "," };
-        let word = name_of(*outcome);
+        let word = outcome_name(*outcome);
         print!(rt; "{comma} {word}")?;
     }
     println!(rt; "")?;
