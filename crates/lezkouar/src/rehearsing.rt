@@ -1,15 +1,16 @@
 // Rehearses a step from a script: its commands are worked out into moves beside, and then one call plays them all and promises agreement of what it played.
 use crate::refusal::Refusal;
-use crate::script::{LineChoice, Opening, Script};
-use crate::staging::{AnyLog, Staging};
+use crate::script::{LineChoice, Script};
+use crate::staging::{Logs, Staging};
 use crate::tracing::{Ending, how_ended, print_summary, print_trace};
 use boards::board::Board;
 use lines::line::Line;
 use lines::queue::Queue;
+use logs::log::Log;
 use rehearsals::moves::Move;
 use rehearsals::rehearsal::{Rehearsal, Unfinished, rehearse};
 use std::alloc::Global;
-use std::{fs, str};
+use std::{fs, io, str};
 use words::row::Row;
 
 // Rehearses the step of a script on standard input.
@@ -42,35 +43,36 @@ pub(crate) fn rehearse_parts(rt: &HostRuntime, parts: &[&str]) -> Result<Ending,
 
 // Rehearses a script that was read.
 fn perform(rt: &HostRuntime, script: &Script) -> Result<Ending, Refusal<'static>> {
+    let alloc = rt.alloc();
     let Some(opening) = script.opening else {
         return Err(Refusal::NoScript);
     };
+    let transaction = opening.transaction;
+    let beside = opening.logs(script.joins(), alloc)?;
+    let logs = opening.logs(script.joins(), alloc)?;
     match opening.line {
         LineChoice::Board => {
-            let moves = work_out(rt.alloc(), script, opening, Board::new())?;
-            play(rt, script, opening, Board::new(), &moves)
+            let moves = work_out(alloc, script, transaction, beside, Board::new())?;
+            play(rt, transaction, logs, Board::new(), &moves)
         }
         LineChoice::Queue(places) => {
-            let mut rows = vec![in rt.alloc(); Row::BLANK; places]?;
-            let moves = work_out(rt.alloc(), script, opening, Queue::new(&mut rows))?;
-            play(rt, script, opening, Queue::new(&mut rows), &moves)
+            let mut rows = vec![in alloc; Row::BLANK; places]?;
+            let moves = work_out(alloc, script, transaction, beside, Queue::new(&mut rows))?;
+            play(rt, transaction, logs, Queue::new(&mut rows), &moves)
         }
     }
 }
 
 // The moves that the commands of a script come to.
-fn work_out<N: Line + Drop>(
+fn work_out<L: Log + Drop, N: Line + Drop>(
     alloc: Global,
     script: &Script,
-    opening: Opening,
+    transaction: u32,
+    logs: Logs<L>,
     line: N,
 ) -> Result<Vec<Move>, Refusal<'static>> {
-    let log = opening.log.make(alloc)?;
-    let logs = opening.stores.make_all(script.joins(), alloc)?;
-    let rehearsal = match Rehearsal::open(opening.transaction, log, line, logs, alloc) {
-        Ok(rehearsal) => rehearsal,
-        Err(_) => return Err(Refusal::Unplayed),
-    };
+    let opened = Rehearsal::open(transaction, logs.coordinators, line, logs.stores, alloc);
+    let rehearsal = opened.map_err(|_| Refusal::Unplayed)?;
     let mut staging = Staging::of(rehearsal, alloc);
     let followed = staging.follow(script);
     let moves = staging.end();
@@ -79,17 +81,22 @@ fn work_out<N: Line + Drop>(
 }
 
 // Plays the moves in one call, and prints the trace and how it ended.
-fn play<N: Line + Drop>(
+fn play<L: Log + Drop, N: Line + Drop>(
     rt: &HostRuntime,
-    script: &Script,
-    opening: Opening,
+    transaction: u32,
+    logs: Logs<L>,
     line: N,
     moves: &[Move],
 ) -> Result<Ending, Refusal<'static>> {
-    let alloc = rt.alloc();
-    let log = opening.log.make(alloc)?;
-    let logs = opening.stores.make_all(script.joins(), alloc)?;
-    let rehearsal = match rehearse(opening.transaction, log, line, logs, moves, alloc) {
+    let played = rehearse(
+        transaction,
+        logs.coordinators,
+        line,
+        logs.stores,
+        moves,
+        rt.alloc(),
+    );
+    let rehearsal = match played {
         Ok(rehearsal) => rehearsal,
         Err(Unfinished::NotOpened(_, _, _)) => return Err(Refusal::Unplayed),
         Err(Unfinished::Halted(rehearsal, _)) => {
@@ -105,13 +112,12 @@ fn play<N: Line + Drop>(
 }
 
 // Prints the trace and the summary.
-fn print_all<N: Line>(
+fn print_all<L: Log + Drop, N: Line>(
     rt: &HostRuntime,
     moves: &[Move],
-    rehearsal: &Rehearsal<AnyLog, AnyLog, N>,
-) -> Result<(), Refusal<'static>> {
+    rehearsal: &Rehearsal<L, L, N>,
+) -> io::Result<()> {
     print_trace(rt, moves, rehearsal.trace(), rehearsal.desk())?;
     println!(rt; "summary")?;
-    print_summary(rt, rehearsal.desk())?;
-    Ok(())
+    print_summary(rt, rehearsal.desk())
 }

@@ -1,9 +1,10 @@
 // The logs and the line that a script chooses, and the moves that its commands come to.
-use crate::script::{Bottom, Command, Gatherers, LineChoice, LogChoice, Script};
+use crate::script::{Bottom, Command, Gatherers, LogChoice, Opening, Script};
 use choices::either::Either;
 use journals::journal::Journal;
 use lines::line::Line;
 use logs::gatherer::Gatherer;
+use logs::log::Log;
 use logs::tray::Tray;
 use rehearsals::moves::{Call, Move};
 use rehearsals::rehearsal::Rehearsal;
@@ -15,14 +16,11 @@ use words::notification::Notification;
 // A log of a kind that a script chooses.
 type BottomLog = Either<Tray, Journal>;
 
-pub(crate) type AnyLog = Either<
-    BottomLog,
-    Either<Gatherer<BottomLog>, Gatherer<Gatherer<BottomLog>>>,
->;
+type AnyLog = Either<BottomLog, Either<Gatherer<BottomLog>, Gatherer<Gatherer<BottomLog>>>>;
 
 impl LogChoice {
     // A log of this kind, without records.
-    pub(crate) fn make(self, alloc: Global) -> Result<AnyLog, AllocError> {
+    fn make(self, alloc: Global) -> Result<AnyLog, AllocError> {
         let bottom = match self.bottom {
             Bottom::Tray => Either::First(Tray::new()),
             Bottom::Journal(bytes) => Either::Second(Journal::create(vec![in alloc; 0; bytes]?)),
@@ -37,7 +35,7 @@ impl LogChoice {
     }
 
     // So many of them.
-    pub(crate) fn make_all(self, count: usize, alloc: Global) -> Result<Vec<AnyLog>, AllocError> {
+    fn make_all(self, count: usize, alloc: Global) -> Result<Vec<AnyLog>, AllocError> {
         let mut logs = Vec::new(alloc);
         for _ in 0..count {
             logs.push(self.make(alloc)?)?;
@@ -46,18 +44,35 @@ impl LogChoice {
     }
 }
 
+// The logs of a rehearsal: the coordinator's, and those with which stores join.
+#[derive(Drop)]
+pub(crate) struct Logs<L> {
+    pub(crate) coordinators: L,
+    pub(crate) stores: Vec<L>,
+}
+
+impl Opening {
+    // The logs that it chooses, for so many stores.
+    pub(crate) fn logs(&self, stores: usize, alloc: Global) -> Result<Logs<AnyLog>, AllocError> {
+        Ok(Logs {
+            coordinators: self.log.make(alloc)?,
+            stores: self.stores.make_all(stores, alloc)?,
+        })
+    }
+}
+
 // A rehearsal in which it is found out to which moves the commands of a script come: those that post what a call gave, deliver or run go by what happened.
-pub(crate) struct Staging<N> {
-    rehearsal: Rehearsal<AnyLog, AnyLog, N>,
+pub(crate) struct Staging<L, N> {
+    rehearsal: Rehearsal<L, L, N>,
     moves: Vec<Move>,
     // which notifications the last call gave
     from: usize,
     to: usize,
 }
 
-impl<N: Line> Staging<N> {
+impl<L: Log + Drop, N: Line> Staging<L, N> {
     // A staging of a rehearsal that was just opened.
-    pub(crate) fn of(rehearsal: Rehearsal<AnyLog, AnyLog, N>, alloc: Global) -> Staging<N> {
+    pub(crate) fn of(rehearsal: Rehearsal<L, L, N>, alloc: Global) -> Staging<L, N> {
         Staging {
             rehearsal,
             moves: Vec::new(alloc),
