@@ -81,9 +81,9 @@ module _ {C P N : Type 0} (mc : LogMeans C) (mp : LogMeans P) (mn : LineMeans N)
     happened (Register d) e h r = moved t _ w v h.2.0 r
     happened (Join s) e (inl h) r = moved t _ w v h.2.1.1 r
     happened (Join s) e (inr h) r = rested t w v h.2.0 r
-    happened AskCommit e (inl h) r = moved t _ w v h.2.0 r
+    happened AskCommit e (inl h) r = moved t _ w v h.2.1.0 r
     happened AskCommit e (inr h) r = rested t w v h.2.0 r
-    happened AskRollback e (inl h) r = moved t _ w v h.2.0 r
+    happened AskRollback e (inl h) r = moved t _ w v h.2.1.0 r
     happened AskRollback e (inr h) r = rested t w v h.2.0 r
     happened AskOutcome e h r = moved t _ w v h.2.0 r
     happened (Coordinator c) e h r = heads c e h r

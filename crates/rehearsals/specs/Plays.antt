@@ -105,12 +105,16 @@ module _ {C P N : Type 0} (mc : LogMeans C) (mp : LogMeans P) (mn : LineMeans N)
     abbrev pub NobodyJoins : ℕ → Type 0
     NobodyJoins s = (r.logs.items ≡ []) ⊎ NotAwaited s w ⊎ ((ls : List P) × (l : P) × (r.logs.items ≡ ls ++ l ∷ []) × (Fresh t (log_of mp l) → ⊥))
 
+    -- the closing right is still there
+    abbrev pub HasRight : Type 0
+    HasRight = is_some r.desk.right ≡ true
+
     -- what a move did, by its event
     abbrev pub Happened : Move → Event → Type 0
     Happened (Register d) e = Can E.Registered (RegisteredAs t w v d) e
     Happened (Join s) e = ((e ≡ E.Joined) × (l : P) × JoinedWith s.value l) ⊎ Cannot (NobodyJoins s.value) e
-    Happened AskCommit e = Can E.Told (AskedCommit t w v) e ⊎ Cannot (r.desk.right ≡ None) e
-    Happened AskRollback e = Can E.Told (AskedRollback t w v) e ⊎ Cannot (r.desk.right ≡ None) e
+    Happened AskCommit e = Can E.Told (λ a. HasRight × AskedCommit t w v a) e ⊎ Cannot (r.desk.right ≡ None) e
+    Happened AskRollback e = Can E.Told (λ a. HasRight × AskedRollback t w v a) e ⊎ Cannot (r.desk.right ≡ None) e
     Happened AskOutcome e = Can E.Asked (AskedOutcome t w v) e
     Happened (Coordinator c) e = Heads c e
     Happened (Vote s b) e = Can E.Participant (Voted t w v s.value b) e ⊎ Cannot (NotJoined s.value w) e

@@ -1,4 +1,4 @@
-ghost use Rattle.std.specs.Prelude.{◌≡◌, None, MatchResult};
+ghost use Rattle.std.specs.Prelude.{◌≡◌, None, MatchResult, is_some};
 ghost use Rattle.desks.specs.Steps.{Did, Tried, RegisteredAs, AskedCommit, AskedRollback, AskedOutcome};
 ghost use Rattle.desks.specs.Worlds.{newcomer, world_of};
 
@@ -26,7 +26,7 @@ impl<C: Log, P: Log + Drop, N: Line> Desk<C, P, N> {
     // The initiator asks to commit, if the closing right is still there.
     pub fn ask_commit(&mut self) -> Result<Option<Told>, AllocError>
         ensures transaction { self.new.transaction ≡ self.old.transaction }
-        ensures right { MatchResult result (λ _. self.new.right ≡ None) (λ _. self.new.right ≡ self.old.right) }
+        ensures right { MatchResult result (λ told. (is_some told ≡ is_some self.old.right) × (self.new.right ≡ None)) (λ _. self.new.right ≡ self.old.right) }
         ensures step { Tried (AskedCommit self.old.transaction (world_of C.Log P.Log N.Line self.old) (world_of C.Log P.Log N.Line self.new)) (self.old.right ≡ None) (world_of C.Log P.Log N.Line self.old) (world_of C.Log P.Log N.Line self.new) result }
     {
         self.given.reserve(PLACES)?;
@@ -47,7 +47,7 @@ impl<C: Log, P: Log + Drop, N: Line> Desk<C, P, N> {
     // The initiator asks to roll back, if the closing right is still there.
     pub fn ask_rollback(&mut self) -> Result<Option<Told>, AllocError>
         ensures transaction { self.new.transaction ≡ self.old.transaction }
-        ensures right { MatchResult result (λ _. self.new.right ≡ None) (λ _. self.new.right ≡ self.old.right) }
+        ensures right { MatchResult result (λ told. (is_some told ≡ is_some self.old.right) × (self.new.right ≡ None)) (λ _. self.new.right ≡ self.old.right) }
         ensures step { Tried (AskedRollback self.old.transaction (world_of C.Log P.Log N.Line self.old) (world_of C.Log P.Log N.Line self.new)) (self.old.right ≡ None) (world_of C.Log P.Log N.Line self.old) (world_of C.Log P.Log N.Line self.new) result }
     {
         self.given.reserve(PLACES)?;
