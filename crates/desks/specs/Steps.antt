@@ -1,5 +1,5 @@
 -- What each step at a desk does.
-use Rattle.std.specs.Prelude.{◌≡◌, ℕ, true, List, reverse, Ok, Err, Some, None, Result, Option, slice_index_or}
+use Rattle.std.specs.Prelude.{◌≡◌, ℕ, ◌+◌, ◌%◌, ◌^◌, true, List, reverse, Ok, Err, Some, None, Result, Option, slice_index_or}
 use Rattle.std.specs.List.{slice_get}
 use Rattle.std.specs.declared.alloc.AllocError.{AllocError}
 use Rattle.agreement.specs.CoordinatorRules as C
@@ -19,6 +19,7 @@ use Rattle.coordinator.specs.declared.answers.Told.{Told}
 use Rattle.desks.specs.declared.desk.Party.{Party}
 use Rattle.desks.specs.declared.desk.Party.TheVariants.{Nobody, Joined as Sits}
 use Rattle.desks.specs.declared.desk.Store.{Store}
+use Rattle.lines.specs.declared.line.Line.{Ghosts as LineMeans}
 use Rattle.logs.specs.declared.log.Log.{Ghosts as LogMeans}
 use Rattle.words.specs.Kinds.{goes_up}
 use Rattle.words.specs.Notes.{Note, note_of}
@@ -49,6 +50,16 @@ given_at i w = slice_get w.office.mail.given i
 abbrev pub taken_at : ℕ → World → Option Note
 taken_at i w = slice_get (reverse w.office.mail.taken) i
 
+-- this notification was posted on the line, once: by a step of the line's own, and counted
+abbrev pub PostedOn : {N : Type 0} → LineMeans N → Note → N → N → Type 0
+PostedOn mn n l k = mn.step l n k × (mn.posts k ≡ (mn.posts l + 1) % 2 ^ 64)
+
+-- what a step that posts does on the line: it posts a notification that is so; or it does nothing, since it could not be, or for want of memory
+abbrev pub LineBy : {N : Type 0} → LineMeans N → (Note → Type 0) → N → N → Result (Option (Unit {0})) AllocError → Type 0
+LineBy mn so l k (Ok (Some u)) = (n : Note) × so n × PostedOn mn n l k
+LineBy mn so l k (Ok None) = k ≡ l
+LineBy mn so l k (Err f) = k ≡ l
+
 -- how many places the outboxes at a desk have
 abbrev pub places : ℕ
 places = 16
@@ -63,7 +74,7 @@ module _ (t : ℕ) (w v : World) where
   PostedAt i = (n : Note) × (given_at i w ≡ Some n) × Posted n
 
   abbrev pub Said : ℕ → Kind → Type 0
-  Said s k = Posted (note t s k)
+  Said s k = (goes_up k ≡ true) × (seat_in w.office s ≡ volatile) × Posted (note t s k)
 
   abbrev pub Took : Option Notification → Type 0
   Took (Some n) = Moved t (W.takes (note_of n) v.office.mail.waiting) w v

@@ -8,16 +8,6 @@ use participant::Participant;
 use words::notification::Notification;
 use words::row::Row;
 
-// How many places the outboxes at a desk have.
-const PLACES: usize = 16;
-
-// What an outbox holds before a call.
-const BLANK: Row = Row {
-    transaction: 0,
-    seat: 0,
-    kind: 0,
-};
-
 // A durable participant and its log.
 #[derive(Drop)]
 pub struct Store<P> {

@@ -2,7 +2,7 @@
 use Rattle.std.proofs.Common.{◌≡◌, ℕ, List, [], ◌∷◌, ◌++◌, ◌+◌, ◌<◌, length, take, get_or, Some, None, Option, Ok, Err, Result, MatchResult, is_err, Bool, false, sym, ap, subst, ◌∙◌, inl, inr, true}
 use Rattle.agreement.proofs.Invariant as I
 use Rattle.agreement.specs.Logs.{Fresh, log_of}
-use Rattle.agreement.specs.World.{World, Reached, opening, moving, at_first, Clear}
+use Rattle.agreement.specs.World.{World, Reached, opening, moving, Clear}
 use Rattle.agreement.specs.World as W
 use Rattle.rehearsals.specs.Plays.{Agrees, Happened, Heads, Acts, Plays, Step, Opened, Resting, Halts, scene_of}
 use Rattle.desks.specs.Steps.{Moved, Took}
@@ -79,7 +79,7 @@ module _ {C P N : Type 0} (mc : LogMeans C) (mp : LogMeans P) (mn : LineMeans N)
 
     happened : (m : Move) (e : Event) → Happened mc mp mn a b m e → Reached t w → Reached t v
     happened (Register d) e h r = moved t _ w v h.2.0 r
-    happened (Join s) e (inl h) r = moved t _ w v h.2.1.1 r
+    happened (Join s) e (inl h) r = moved t _ w v h.2.2.1 r
     happened (Join s) e (inr h) r = rested t w v h.2.0 r
     happened AskCommit e (inl h) r = moved t _ w v h.2.1.0 r
     happened AskCommit e (inr h) r = rested t w v h.2.0 r
@@ -92,7 +92,7 @@ module _ {C P N : Type 0} (mc : LogMeans C) (mp : LogMeans P) (mn : LineMeans N)
     happened (Participant s c) e h r = acts s.value c e h r
     happened (Post i) e (inl h) r = moved t _ w v h.1.2 r
     happened (Post i) e (inr h) r = rested t w v h.2.0 r
-    happened (Say s k) e (inl h) r = moved t _ w v h.1 r
+    happened (Say s k) e (inl h) r = moved t _ w v h.1.2 r
     happened (Say s k) e (inr h) r = rested t w v h.2.0 r
     happened Take e h r = took t w v h.0 h.2 r
 

@@ -6,7 +6,7 @@ use Rattle.agreement.specs.Statement.{NoTwoEndDifferently, DecisionBacked, Answe
 use Rattle.agreement.specs.World.{World, expires, settles, resends, restarts, seat_in, at_first, Clear}
 use Rattle.agreement.specs.declared.participant.State.{State as PartState}
 use Rattle.rehearsals.specs.Moves.{seat_of}
-use Rattle.desks.specs.Steps.{RegisteredAs, AskedCommit, AskedRollback, AskedOutcome, Headed, HeadReceived, Joined, Acted, ActReceived, Voted, RestartedAt, PostedAt, Said, Took, NotGiven, NotTaken, NotJoined, NotAwaited, CannotSay, places}
+use Rattle.desks.specs.Steps.{RegisteredAs, AskedCommit, AskedRollback, AskedOutcome, Headed, HeadReceived, Joined, Acted, ActReceived, Voted, RestartedAt, PostedAt, Said, Took, NotGiven, NotTaken, NotJoined, NotAwaited, CannotSay, PostedOn, given_at, places}
 use Rattle.desks.specs.Worlds.{world_of, state_in}
 use Rattle.rehearsals.specs.declared.moves.Call.{Call}
 use Rattle.rehearsals.specs.declared.moves.Call.TheVariants.{Expire, Settle, Resend, Receive, Restart}
@@ -24,7 +24,10 @@ use Rattle.lines.specs.Lines.{Chain}
 use Rattle.lines.specs.declared.line.Line.{Ghosts as LineMeans}
 use Rattle.logs.specs.declared.log.Log.{Ghosts as LogMeans}
 use Rattle.seats.specs.declared.seat.Seat.{Seat}
+use Rattle.agreement.specs.Turns.{note}
+use Rattle.words.specs.Notes.{Note}
 use Rattle.words.specs.declared.fault.Fault.{Fault}
+use Rattle.words.specs.declared.notification.Notification.{Notification}
 
 -- the closing right after a move: whoever asks to commit or to roll back spends it
 abbrev pub right_after : Move → Option ClosingRight → Option ClosingRight
@@ -41,9 +44,9 @@ right_after (Say s k) o = o
 right_after Take o = o
 
 -- the event of a participant's call
-abbrev pub told : Option (Result ℕ (Fault PartState)) → Event
-told None = E.Impossible
-told (Some a) = E.Participant a
+abbrev pub event_of : Option (Result ℕ (Fault PartState)) → Event
+event_of None = E.Impossible
+event_of (Some a) = E.Participant a
 
 -- agreement, whole, in one world: no two parties end differently, a decision is backed by every vote, and an answer once given stays
 abbrev pub Agrees : ℕ → World → Type 0
@@ -65,16 +68,24 @@ module _ {C P N : Type 0} (mc : LogMeans C) (mp : LogMeans P) (mn : LineMeans N)
     v = scene_of r'
 
     -- the logs that lie ready stay
-    abbrev pub Kept : Type 0
-    Kept = r'.logs.items ≡ r.logs.items
+    abbrev pub LogsStay : Type 0
+    LogsStay = r'.logs.items ≡ r.logs.items
+
+    -- so does the line
+    abbrev pub LineStays : Type 0
+    LineStays = r'.desk.line ≡ r.desk.line
 
     -- nothing changed
     abbrev pub Unmoved : Type 0
-    Unmoved = (v ≡ w) × Kept
+    Unmoved = (v ≡ w) × LineStays × LogsStay
 
     -- the move was made, and its event says so
     abbrev pub Can : {A : Type 0} → (A → Event) → (A → Type 0) → Event → Type 0
-    Can {A = A} says did e = (a : A) × (e ≡ says a) × did a × Kept
+    Can {A = A} says did e = (a : A) × (e ≡ says a) × did a × LineStays × LogsStay
+
+    -- a notification that is so was posted on the line
+    abbrev pub OnLine : (Note → Type 0) → Type 0
+    OnLine so = (n : Note) × so n × PostedOn mn n r.desk.line r'.desk.line
 
     -- the move could not be, and why; nothing changed
     abbrev pub Cannot : Type 0 → Event → Type 0
@@ -99,7 +110,7 @@ module _ {C P N : Type 0} (mc : LogMeans C) (mp : LogMeans P) (mn : LineMeans N)
 
     -- the last of the logs that lie ready is the participant's
     abbrev pub JoinedWith : ℕ → P → Type 0
-    JoinedWith s l = (r.logs.items ≡ r'.logs.items ++ l ∷ []) × Joined t w v s (log_of mp l)
+    JoinedWith s l = (r.logs.items ≡ r'.logs.items ++ l ∷ []) × LineStays × Joined t w v s (log_of mp l)
 
     -- no log lies ready; or nobody is awaited at the seat; or the last log that lies ready has a record of the transaction
     abbrev pub NobodyJoins : ℕ → Type 0
@@ -119,9 +130,9 @@ module _ {C P N : Type 0} (mc : LogMeans C) (mp : LogMeans P) (mn : LineMeans N)
     Happened (Coordinator c) e = Heads c e
     Happened (Vote s b) e = Can E.Participant (Voted t w v s.value b) e ⊎ Cannot (NotJoined s.value w) e
     Happened (Participant s c) e = Acts s.value c e
-    Happened (Post i) e = ((e ≡ E.Posted) × PostedAt t w v i × Kept) ⊎ Cannot (NotGiven i w) e
-    Happened (Say s k) e = ((e ≡ E.Posted) × Said t w v s.value k × Kept) ⊎ Cannot (CannotSay s.value k w) e
-    Happened Take e = Can E.Took (Took t w v) e
+    Happened (Post i) e = ((e ≡ E.Posted) × PostedAt t w v i × OnLine (λ n. given_at i w ≡ Some n) × LogsStay) ⊎ Cannot (NotGiven i w) e
+    Happened (Say s k) e = ((e ≡ E.Posted) × Said t w v s.value k × OnLine (λ n. n ≡ note t s.value k) × LogsStay) ⊎ Cannot (CannotSay s.value k w) e
+    Happened Take e = (a : Option Notification) × (e ≡ E.Took a) × Took t w v a × (mn.posts r'.desk.line ≡ mn.posts r.desk.line) × LogsStay
 
     -- the move was made, or could not be, and the trace has one entry more, which tells what there is behind it
     pub record Plays (m : Move) : Type 0 where

@@ -5,9 +5,10 @@ ghost use Rattle.agreement.specs.World.{settles, expires, resends};
 ghost use Rattle.desks.specs.Steps.{Tried, Acted, ActReceived, Voted, RestartedAt, NotTaken, NotJoined, places};
 ghost use Rattle.desks.specs.Worlds.{world_of};
 
-use super::{BLANK, Desk, PLACES, Party, Store};
+use super::{Desk, Party, Store};
 use crate::rows::keep;
 use agreement::participant::{Ballot, State};
+use coordinator::OUTBOX_PLACES;
 use lines::line::Line;
 use logs::log::Log;
 use participant::Participant;
@@ -25,10 +26,11 @@ impl<C: Log, P: Log, N: Line> Desk<C, P, N> {
     ) -> Result<Option<Result<usize, Fault<State>>>, AllocError>
         ensures transaction { self.new.transaction ≡ self.old.transaction }
         ensures right { self.new.right ≡ self.old.right }
+        ensures line { self.new.line ≡ self.old.line }
         ensures step { Tried (Acted self.old.transaction (world_of C.Log P.Log N.Line self.old) (world_of C.Log P.Log N.Line self.new) seat.value (settles places)) (NotJoined seat.value (world_of C.Log P.Log N.Line self.old)) (world_of C.Log P.Log N.Line self.old) (world_of C.Log P.Log N.Line self.new) result }
     {
-        self.given.reserve(PLACES)?;
-        let mut outbox = [BLANK; PLACES];
+        self.given.reserve(OUTBOX_PLACES)?;
+        let mut outbox = [Row::BLANK; OUTBOX_PLACES];
         let Party::Joined(store) = &mut self.seats[usize::from(seat.number())] else {
             return Ok(None);
         };
@@ -44,10 +46,11 @@ impl<C: Log, P: Log, N: Line> Desk<C, P, N> {
     ) -> Result<Option<Result<usize, Fault<State>>>, AllocError>
         ensures transaction { self.new.transaction ≡ self.old.transaction }
         ensures right { self.new.right ≡ self.old.right }
+        ensures line { self.new.line ≡ self.old.line }
         ensures step { Tried (Acted self.old.transaction (world_of C.Log P.Log N.Line self.old) (world_of C.Log P.Log N.Line self.new) seat.value (expires places)) (NotJoined seat.value (world_of C.Log P.Log N.Line self.old)) (world_of C.Log P.Log N.Line self.old) (world_of C.Log P.Log N.Line self.new) result }
     {
-        self.given.reserve(PLACES)?;
-        let mut outbox = [BLANK; PLACES];
+        self.given.reserve(OUTBOX_PLACES)?;
+        let mut outbox = [Row::BLANK; OUTBOX_PLACES];
         let Party::Joined(store) = &mut self.seats[usize::from(seat.number())] else {
             return Ok(None);
         };
@@ -63,10 +66,11 @@ impl<C: Log, P: Log, N: Line> Desk<C, P, N> {
     ) -> Result<Option<Result<usize, Fault<State>>>, AllocError>
         ensures transaction { self.new.transaction ≡ self.old.transaction }
         ensures right { self.new.right ≡ self.old.right }
+        ensures line { self.new.line ≡ self.old.line }
         ensures step { Tried (Acted self.old.transaction (world_of C.Log P.Log N.Line self.old) (world_of C.Log P.Log N.Line self.new) seat.value (resends places)) (NotJoined seat.value (world_of C.Log P.Log N.Line self.old)) (world_of C.Log P.Log N.Line self.old) (world_of C.Log P.Log N.Line self.new) result }
     {
-        self.given.reserve(PLACES)?;
-        let mut outbox = [BLANK; PLACES];
+        self.given.reserve(OUTBOX_PLACES)?;
+        let mut outbox = [Row::BLANK; OUTBOX_PLACES];
         let Party::Joined(store) = &mut self.seats[usize::from(seat.number())] else {
             return Ok(None);
         };
@@ -83,10 +87,11 @@ impl<C: Log, P: Log, N: Line> Desk<C, P, N> {
     ) -> Result<Option<Result<usize, Fault<State>>>, AllocError>
         ensures transaction { self.new.transaction ≡ self.old.transaction }
         ensures right { self.new.right ≡ self.old.right }
+        ensures line { self.new.line ≡ self.old.line }
         ensures step { Tried (Voted self.old.transaction (world_of C.Log P.Log N.Line self.old) (world_of C.Log P.Log N.Line self.new) seat.value ballot) (NotJoined seat.value (world_of C.Log P.Log N.Line self.old)) (world_of C.Log P.Log N.Line self.old) (world_of C.Log P.Log N.Line self.new) result }
     {
-        self.given.reserve(PLACES)?;
-        let mut outbox = [BLANK; PLACES];
+        self.given.reserve(OUTBOX_PLACES)?;
+        let mut outbox = [Row::BLANK; OUTBOX_PLACES];
         let Party::Joined(store) = &mut self.seats[usize::from(seat.number())] else {
             return Ok(None);
         };
@@ -103,13 +108,14 @@ impl<C: Log, P: Log, N: Line> Desk<C, P, N> {
     ) -> Result<Option<Result<usize, Fault<State>>>, AllocError>
         ensures transaction { self.new.transaction ≡ self.old.transaction }
         ensures right { self.new.right ≡ self.old.right }
+        ensures line { self.new.line ≡ self.old.line }
         ensures step { Tried (ActReceived self.old.transaction (world_of C.Log P.Log N.Line self.old) (world_of C.Log P.Log N.Line self.new) seat.value number) (NotTaken number (world_of C.Log P.Log N.Line self.old) ⊎ NotJoined seat.value (world_of C.Log P.Log N.Line self.old)) (world_of C.Log P.Log N.Line self.old) (world_of C.Log P.Log N.Line self.new) result }
     {
-        self.given.reserve(PLACES)?;
+        self.given.reserve(OUTBOX_PLACES)?;
         let Some(notification) = self.taken.get(number) else {
             return Ok(None);
         };
-        let mut outbox = [BLANK; PLACES];
+        let mut outbox = [Row::BLANK; OUTBOX_PLACES];
         let Party::Joined(store) = &mut self.seats[usize::from(seat.number())] else {
             return Ok(None);
         };
@@ -124,6 +130,7 @@ impl<C: Log, P: Log, N: Line> Desk<C, P, N> {
     pub fn restart_at(&mut self, seat: Seat, n: u32) -> Option<()>
         ensures transaction { self.new.transaction ≡ self.old.transaction }
         ensures right { self.new.right ≡ self.old.right }
+        ensures line { self.new.line ≡ self.old.line }
         ensures step { RestartedAt P.Log self.old.seats.items self.old.transaction (world_of C.Log P.Log N.Line self.old) (world_of C.Log P.Log N.Line self.new) seat.value n result }
     {
         let Party::Joined(store) = &mut self.seats[usize::from(seat.number())] else {

@@ -2,20 +2,22 @@ ghost use Rattle.std.specs.Prelude.{◌≡◌, None, MatchResult, is_some};
 ghost use Rattle.desks.specs.Steps.{Did, Tried, RegisteredAs, AskedCommit, AskedRollback, AskedOutcome};
 ghost use Rattle.desks.specs.Worlds.{newcomer, world_of};
 
-use super::{BLANK, Desk, PLACES, Party};
+use super::{Desk, Party};
 use crate::rows::keep;
 use agreement::coordinator::{Durability, Outcome, State};
-use coordinator::{Registered, Told};
+use coordinator::{OUTBOX_PLACES, Registered, Told};
 use lines::line::Line;
 use logs::log::Log;
 use std::alloc::AllocError;
 use words::fault::Fault;
+use words::row::Row;
 
 impl<C: Log, P: Log + Drop, N: Line> Desk<C, P, N> {
     // The initiator asks the outcome.
     pub fn outcome(&mut self) -> Result<Outcome, AllocError>
         ensures transaction { self.new.transaction ≡ self.old.transaction }
         ensures right { self.new.right ≡ self.old.right }
+        ensures line { self.new.line ≡ self.old.line }
         ensures step { Did (AskedOutcome self.old.transaction (world_of C.Log P.Log N.Line self.old) (world_of C.Log P.Log N.Line self.new)) (world_of C.Log P.Log N.Line self.old) (world_of C.Log P.Log N.Line self.new) result }
     {
         let outcome = self.coordinator.outcome();
@@ -27,14 +29,15 @@ impl<C: Log, P: Log + Drop, N: Line> Desk<C, P, N> {
     pub fn ask_commit(&mut self) -> Result<Option<Told>, AllocError>
         ensures transaction { self.new.transaction ≡ self.old.transaction }
         ensures right { MatchResult result (λ told. (is_some told ≡ is_some self.old.right) × (self.new.right ≡ None)) (λ _. self.new.right ≡ self.old.right) }
+        ensures line { self.new.line ≡ self.old.line }
         ensures step { Tried (AskedCommit self.old.transaction (world_of C.Log P.Log N.Line self.old) (world_of C.Log P.Log N.Line self.new)) (self.old.right ≡ None) (world_of C.Log P.Log N.Line self.old) (world_of C.Log P.Log N.Line self.new) result }
     {
-        self.given.reserve(PLACES)?;
+        self.given.reserve(OUTBOX_PLACES)?;
         self.told.reserve(1)?;
         let Some(right) = self.right.take() else {
             return Ok(None);
         };
-        let mut outbox = [BLANK; PLACES];
+        let mut outbox = [Row::BLANK; OUTBOX_PLACES];
         let told = match self.coordinator.ask_commit(right, &mut outbox) {
             Ok(told) => told,
             Err(returned) => unreachable(),
@@ -48,14 +51,15 @@ impl<C: Log, P: Log + Drop, N: Line> Desk<C, P, N> {
     pub fn ask_rollback(&mut self) -> Result<Option<Told>, AllocError>
         ensures transaction { self.new.transaction ≡ self.old.transaction }
         ensures right { MatchResult result (λ told. (is_some told ≡ is_some self.old.right) × (self.new.right ≡ None)) (λ _. self.new.right ≡ self.old.right) }
+        ensures line { self.new.line ≡ self.old.line }
         ensures step { Tried (AskedRollback self.old.transaction (world_of C.Log P.Log N.Line self.old) (world_of C.Log P.Log N.Line self.new)) (self.old.right ≡ None) (world_of C.Log P.Log N.Line self.old) (world_of C.Log P.Log N.Line self.new) result }
     {
-        self.given.reserve(PLACES)?;
+        self.given.reserve(OUTBOX_PLACES)?;
         self.told.reserve(1)?;
         let Some(right) = self.right.take() else {
             return Ok(None);
         };
-        let mut outbox = [BLANK; PLACES];
+        let mut outbox = [Row::BLANK; OUTBOX_PLACES];
         let told = match self.coordinator.ask_rollback(right, &mut outbox) {
             Ok(told) => told,
             Err(returned) => unreachable(),
@@ -72,10 +76,11 @@ impl<C: Log, P: Log + Drop, N: Line> Desk<C, P, N> {
     ) -> Result<Result<Registered, Fault<State>>, AllocError>
         ensures transaction { self.new.transaction ≡ self.old.transaction }
         ensures right { self.new.right ≡ self.old.right }
+        ensures line { self.new.line ≡ self.old.line }
         ensures step { Did (RegisteredAs self.old.transaction (world_of C.Log P.Log N.Line self.old) (world_of C.Log P.Log N.Line self.new) durability) (world_of C.Log P.Log N.Line self.old) (world_of C.Log P.Log N.Line self.new) result }
     {
-        self.given.reserve(PLACES)?;
-        let mut outbox = [BLANK; PLACES];
+        self.given.reserve(OUTBOX_PLACES)?;
+        let mut outbox = [Row::BLANK; OUTBOX_PLACES];
         let answer = self.coordinator.register(durability, &mut outbox);
         keep(&mut self.given, &outbox);
         if let Ok(registered) = answer {

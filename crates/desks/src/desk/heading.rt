@@ -1,29 +1,29 @@
 ghost use Rattle.std.specs.Prelude.{◌≡◌, Ok};
 ghost use Rattle.agreement.specs.World.{settles, expires, resends, restarts};
-ghost use Rattle.agreement.specs.Logs.{log_of};
-ghost use Rattle.coordinator.specs.Calls.{Wakes, woken};
 ghost use Rattle.desks.specs.Steps.{Did, Tried, Headed, HeadReceived, NotTaken, places};
 ghost use Rattle.desks.specs.Worlds.{world_of};
 
-use super::{BLANK, Desk, PLACES};
+use super::Desk;
 use crate::rows::keep;
 use agreement::coordinator::State;
-use coordinator::Coordinator;
+use coordinator::{Coordinator, OUTBOX_PLACES};
 use core::mem::replace_with;
 use lines::line::Line;
 use logs::log::Log;
 use std::alloc::AllocError;
 use words::fault::Fault;
+use words::row::Row;
 
 impl<C: Log, P: Log, N: Line> Desk<C, P, N> {
     // The coordinator settles.
     pub fn settle(&mut self) -> Result<Result<usize, Fault<State>>, AllocError>
         ensures transaction { self.new.transaction ≡ self.old.transaction }
         ensures right { self.new.right ≡ self.old.right }
+        ensures line { self.new.line ≡ self.old.line }
         ensures step { Did (Headed self.old.transaction (world_of C.Log P.Log N.Line self.old) (world_of C.Log P.Log N.Line self.new) (settles places)) (world_of C.Log P.Log N.Line self.old) (world_of C.Log P.Log N.Line self.new) result }
     {
-        self.given.reserve(PLACES)?;
-        let mut outbox = [BLANK; PLACES];
+        self.given.reserve(OUTBOX_PLACES)?;
+        let mut outbox = [Row::BLANK; OUTBOX_PLACES];
         let answer = self.coordinator.settle(&mut self.log, &mut outbox);
         keep(&mut self.given, &outbox);
         Ok(answer)
@@ -33,10 +33,11 @@ impl<C: Log, P: Log, N: Line> Desk<C, P, N> {
     pub fn expire(&mut self) -> Result<Result<usize, Fault<State>>, AllocError>
         ensures transaction { self.new.transaction ≡ self.old.transaction }
         ensures right { self.new.right ≡ self.old.right }
+        ensures line { self.new.line ≡ self.old.line }
         ensures step { Did (Headed self.old.transaction (world_of C.Log P.Log N.Line self.old) (world_of C.Log P.Log N.Line self.new) (expires places)) (world_of C.Log P.Log N.Line self.old) (world_of C.Log P.Log N.Line self.new) result }
     {
-        self.given.reserve(PLACES)?;
-        let mut outbox = [BLANK; PLACES];
+        self.given.reserve(OUTBOX_PLACES)?;
+        let mut outbox = [Row::BLANK; OUTBOX_PLACES];
         let answer = self.coordinator.expire(&mut outbox);
         keep(&mut self.given, &outbox);
         Ok(answer)
@@ -46,10 +47,11 @@ impl<C: Log, P: Log, N: Line> Desk<C, P, N> {
     pub fn resend(&mut self) -> Result<Result<usize, Fault<State>>, AllocError>
         ensures transaction { self.new.transaction ≡ self.old.transaction }
         ensures right { self.new.right ≡ self.old.right }
+        ensures line { self.new.line ≡ self.old.line }
         ensures step { Did (Headed self.old.transaction (world_of C.Log P.Log N.Line self.old) (world_of C.Log P.Log N.Line self.new) (resends places)) (world_of C.Log P.Log N.Line self.old) (world_of C.Log P.Log N.Line self.new) result }
     {
-        self.given.reserve(PLACES)?;
-        let mut outbox = [BLANK; PLACES];
+        self.given.reserve(OUTBOX_PLACES)?;
+        let mut outbox = [Row::BLANK; OUTBOX_PLACES];
         let answer = self.coordinator.resend(&mut outbox);
         keep(&mut self.given, &outbox);
         Ok(answer)
@@ -62,13 +64,14 @@ impl<C: Log, P: Log, N: Line> Desk<C, P, N> {
     ) -> Result<Option<Result<usize, Fault<State>>>, AllocError>
         ensures transaction { self.new.transaction ≡ self.old.transaction }
         ensures right { self.new.right ≡ self.old.right }
+        ensures line { self.new.line ≡ self.old.line }
         ensures step { Tried (HeadReceived self.old.transaction (world_of C.Log P.Log N.Line self.old) (world_of C.Log P.Log N.Line self.new) number) (NotTaken number (world_of C.Log P.Log N.Line self.old)) (world_of C.Log P.Log N.Line self.old) (world_of C.Log P.Log N.Line self.new) result }
     {
-        self.given.reserve(PLACES)?;
+        self.given.reserve(OUTBOX_PLACES)?;
         let Some(notification) = self.taken.get(number) else {
             return Ok(None);
         };
-        let mut outbox = [BLANK; PLACES];
+        let mut outbox = [Row::BLANK; OUTBOX_PLACES];
         let answer = self.coordinator.receive(*notification, &mut outbox);
         keep(&mut self.given, &outbox);
         Ok(Some(answer))
@@ -78,6 +81,7 @@ impl<C: Log, P: Log, N: Line> Desk<C, P, N> {
     pub fn restart(&mut self, n: u32)
         ensures transaction { self.new.transaction ≡ self.old.transaction }
         ensures right { self.new.right ≡ self.old.right }
+        ensures line { self.new.line ≡ self.old.line }
         ensures step { Headed self.old.transaction (world_of C.Log P.Log N.Line self.old) (world_of C.Log P.Log N.Line self.new) (restarts (C.Log.survives self.old.log n)) (Ok 0) }
     {
         replace_with(self, n, Desk::restarted);
@@ -86,6 +90,7 @@ impl<C: Log, P: Log, N: Line> Desk<C, P, N> {
     fn restarted(self, n: u32) -> (Desk<C, P, N>, ())
         ensures transaction { result.0.transaction ≡ self.transaction }
         ensures right { result.0.right ≡ self.right }
+        ensures line { result.0.line ≡ self.line }
         ensures step { Headed self.transaction (world_of C.Log P.Log N.Line self) (world_of C.Log P.Log N.Line result.0) (restarts (C.Log.survives self.log n)) (Ok 0) }
     {
         let Desk {

@@ -15,6 +15,7 @@ impl<C: Log, P: Log + Drop, N: Line> Desk<C, P, N> {
     pub fn join(&mut self, seat: Seat, log: P) -> Result<(), P>
         ensures transaction { self.new.transaction ≡ self.old.transaction }
         ensures right { self.new.right ≡ self.old.right }
+        ensures line { self.new.line ≡ self.old.line }
         ensures step { MatchResult result (λ _. Joined self.old.transaction (world_of C.Log P.Log N.Line self.old) (world_of C.Log P.Log N.Line self.new) seat.value (log_of P.Log log)) (λ back. (back ≡ log) × (NotAwaited seat.value (world_of C.Log P.Log N.Line self.old) ⊎ (Fresh self.old.transaction (log_of P.Log log) → ⊥)) × (world_of C.Log P.Log N.Line self.new ≡ world_of C.Log P.Log N.Line self.old)) }
     {
         let transaction = self.transaction;

@@ -1,5 +1,6 @@
-ghost use Rattle.std.specs.Prelude.{◌≡◌};
-ghost use Rattle.desks.specs.Steps.{Did, Tried, PostedAt, Said, Took, NotGiven, CannotSay};
+ghost use Rattle.std.specs.Prelude.{◌≡◌, MatchResult, Some};
+ghost use Rattle.agreement.specs.Turns.{note};
+ghost use Rattle.desks.specs.Steps.{Did, Tried, PostedAt, Said, Took, NotGiven, CannotSay, LineBy, given_at};
 ghost use Rattle.desks.specs.Worlds.{world_of};
 
 use super::{Desk, Party};
@@ -15,6 +16,7 @@ impl<C: Log, P: Log, N: Line> Desk<C, P, N> {
     pub fn post(&mut self, number: usize) -> Result<Option<()>, AllocError>
         ensures transaction { self.new.transaction ≡ self.old.transaction }
         ensures right { self.new.right ≡ self.old.right }
+        ensures line { LineBy N.Line (λ n. given_at number (world_of C.Log P.Log N.Line self.old) ≡ Some n) self.old.line self.new.line result }
         ensures step { Tried (λ _. PostedAt self.old.transaction (world_of C.Log P.Log N.Line self.old) (world_of C.Log P.Log N.Line self.new) number) (NotGiven number (world_of C.Log P.Log N.Line self.old)) (world_of C.Log P.Log N.Line self.old) (world_of C.Log P.Log N.Line self.new) result }
     {
         let Some(row) = self.given.get(number) else {
@@ -32,6 +34,7 @@ impl<C: Log, P: Log, N: Line> Desk<C, P, N> {
     pub fn take(&mut self) -> Result<Option<Notification>, AllocError>
         ensures transaction { self.new.transaction ≡ self.old.transaction }
         ensures right { self.new.right ≡ self.old.right }
+        ensures line { MatchResult result (λ _. N.Line.posts self.new.line ≡ N.Line.posts self.old.line) (λ _. self.new.line ≡ self.old.line) }
         ensures step { Did (Took self.old.transaction (world_of C.Log P.Log N.Line self.old) (world_of C.Log P.Log N.Line self.new)) (world_of C.Log P.Log N.Line self.old) (world_of C.Log P.Log N.Line self.new) result }
     {
         self.taken.reserve(1)?;
@@ -46,19 +49,20 @@ impl<C: Log, P: Log, N: Line> Desk<C, P, N> {
     pub fn say(&mut self, seat: Seat, kind: Kind) -> Result<Option<()>, AllocError>
         ensures transaction { self.new.transaction ≡ self.old.transaction }
         ensures right { self.new.right ≡ self.old.right }
+        ensures line { LineBy N.Line (λ n. n ≡ note self.old.transaction seat.value kind) self.old.line self.new.line result }
         ensures step { Tried (λ _. Said self.old.transaction (world_of C.Log P.Log N.Line self.old) (world_of C.Log P.Log N.Line self.new) seat.value kind) (CannotSay seat.value kind (world_of C.Log P.Log N.Line self.old)) (world_of C.Log P.Log N.Line self.old) (world_of C.Log P.Log N.Line self.new) result }
     {
         let volatile = matches!(self.seats[usize::from(seat.number())], Party::Volatile);
         if !volatile || !kind.goes_up() {
             return Ok(None);
         }
-        let notification = Notification {
+        let own = Notification {
             transaction: self.transaction,
             seat,
             kind,
         };
-        self.posted.push(notification)?;
-        self.line.post(notification);
+        self.posted.push(own)?;
+        self.line.post(own);
         Ok(Some(()))
     }
 }

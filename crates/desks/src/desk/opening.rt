@@ -5,12 +5,13 @@ ghost use Rattle.desks.specs.Worlds.{world_of};
 ghost use Rattle.desks.specs.declared.desk.Party.TheVariants.{Nobody};
 ghost use Rattle.seats.specs.Sizes.{seat_count};
 
-use super::{BLANK, Desk, PLACES, Party};
-use coordinator::Coordinator;
+use super::{Desk, Party};
+use coordinator::{Coordinator, OUTBOX_PLACES};
 use lines::line::Line;
 use logs::log::Log;
 use seats::seat::SEATS;
 use std::alloc::{AllocError, Global};
+use words::row::Row;
 
 impl<C: Log, P: Log + Drop, N: Line> Desk<C, P, N> {
     // A desk at which a transaction was just opened, with nobody at its seats; without memory for them the log and the line come back.
@@ -52,7 +53,7 @@ impl<C: Log, P: Log + Drop, N: Line> Desk<C, P, N> {
             told: _,
         } = self;
         if let Some(right) = right {
-            let mut outbox = [BLANK; PLACES];
+            let mut outbox = [Row::BLANK; OUTBOX_PLACES];
             match coordinator.ask_rollback(right, &mut outbox) {
                 Ok(_) => {}
                 Err(returned) => unreachable(),

@@ -1,5 +1,5 @@
 ghost use Rattle.std.specs.Prelude.{◌≡◌, MatchResult};
-ghost use Rattle.rehearsals.specs.Plays.{Acts, Happened, Heads, Unmoved, right_after, told};
+ghost use Rattle.rehearsals.specs.Plays.{Acts, Happened, Heads, Unmoved, event_of, right_after};
 ghost use Rattle.rehearsals.specs.declared.moves.Move.TheVariants.{Join};
 
 use super::Rehearsal;
@@ -43,11 +43,11 @@ impl<C: Log, P: Log + Drop, N: Line> Rehearsal<C, P, N> {
         ensures step { MatchResult result (λ e. Acts C.Log P.Log N.Line self.old self.new seat.value call e) (λ _. Unmoved C.Log P.Log N.Line self.old self.new) }
     {
         Ok(match call {
-            Call::Expire => told(self.desk.expire_at(seat)?),
-            Call::Settle => told(self.desk.settle_at(seat)?),
-            Call::Resend => told(self.desk.resend_at(seat)?),
-            Call::Receive(number) => told(self.desk.receive_at(seat, number)?),
-            Call::Restart(n) => told(self.desk.restart_at(seat, n).map(|()| Ok(0))),
+            Call::Expire => event_of(self.desk.expire_at(seat)?),
+            Call::Settle => event_of(self.desk.settle_at(seat)?),
+            Call::Resend => event_of(self.desk.resend_at(seat)?),
+            Call::Receive(number) => event_of(self.desk.receive_at(seat, number)?),
+            Call::Restart(n) => event_of(self.desk.restart_at(seat, n).map(|()| Ok(0))),
         })
     }
 
@@ -108,8 +108,8 @@ impl<C: Log, P: Log + Drop, N: Line> Rehearsal<C, P, N> {
 }
 
 // What a participant's call did.
-fn told(answer: Option<Result<usize, Fault<State>>>) -> Event
-    ensures { result ≡ told answer }
+fn event_of(answer: Option<Result<usize, Fault<State>>>) -> Event
+    ensures { result ≡ event_of answer }
 {
     answer.map_or(Event::Impossible, Event::Participant)
 }

@@ -33,3 +33,12 @@ returns-in_default-try_from-clause-step g c =
     let ws = c.args.self.now.given.items in
     let row = given-row c.deref.result.now ws c.args.number c.in-Some.row.now c.deref.ensures.value a.3.0 (a.3.1 c.in-Some.row.now) in
     (λ (n : Notification). not-given ws c.args.number c.in-Some.row.now n row (exactly-never (λ (x : Notification). c.in-Some.row.now ≡ row_of (note_of x)) t.exact), refl)
+
+pub returns-clause-line : goal.returns-clause-line
+returns-clause-line g c =
+    let n = c.in-Ok.notification in
+    let a = c.in-Some.ensures.lookup in
+    let ws = c.args.self.now.given.items in
+    let row = given-row c.deref.result.now ws c.args.number c.in-Some.row.now c.deref.ensures.value a.3.0 (a.3.1 c.in-Some.row.now) in
+    let at = given-at ws c.args.number c.in-Some.row.now (note_of n) row (exactly-has (λ (x : Notification). c.in-Some.row.now ≡ row_of (note_of x)) n c.in-Ok.ensures.exact) in
+    (note_of n, at, (c.post.ensures.stepped, c.post.ensures.counted))
