@@ -52,6 +52,8 @@ pub(crate) enum Slip {
     QueuePlaces,
     #[error("a command is 'register', 'join SEAT', 'commit', 'rollback', 'outcome', 'vote SEAT BALLOT', 'settle WHO', 'expire WHO', 'resend WHO', 'cut WHO N', 'say SEAT KIND', 'post', 'post I', 'take', 'receive WHO I', 'deliver' or 'run N'")]
     Command,
+    #[error("a participant says Prepared, ReadOnly, Aborted or Committed")]
+    Upward,
     #[error("the number of a notification counts from 0")]
     Number,
     #[error("run takes a number of times from 0 to 4294967295")]

@@ -3,6 +3,7 @@ use crate::reading::{read_durability, read_kind, read_seat};
 use crate::refusal::{Refusal, Slip};
 use rehearsals::moves::{Call, Move};
 use std::alloc::Global;
+use words::kind::Kind;
 
 // How many places a line has where the script does not say.
 const QUEUE_PLACES: usize = 64;
@@ -169,11 +170,17 @@ impl Opening {
         }
     }
 
+    // Begins a choice, which takes the place of an earlier one.
+    fn choose(&mut self, whose: Whose) -> Awaited {
+        *self.choice(whose) = LogChoice::TRAY;
+        Awaited::Log(whose)
+    }
+
     // Takes the next word, and tells what may follow it.
     fn take(&mut self, awaited: Awaited, word: &str) -> Result<Awaited, Slip> {
         match (awaited, word) {
-            (Awaited::Part, "log") => Ok(Awaited::Log(Whose::Coordinators)),
-            (Awaited::Part, "stores") => Ok(Awaited::Log(Whose::Stores)),
+            (Awaited::Part, "log") => Ok(self.choose(Whose::Coordinators)),
+            (Awaited::Part, "stores") => Ok(self.choose(Whose::Stores)),
             (Awaited::Part, "line") => Ok(Awaited::Line),
             (Awaited::Log(whose), "gathered") => {
                 let choice = self.choice(whose);
@@ -263,10 +270,20 @@ fn read_with_one(first: &str, word: &str) -> Result<Command, Slip> {
 fn read_with_two(first: &str, word: &str, other: &str) -> Result<Move, Slip> {
     match first {
         "vote" => Ok(Move::Vote(read_seat(word)?, other.parse().map_err(Slip::Ballot)?)),
-        "say" => Ok(Move::Say(read_seat(word)?, read_kind(other)?)),
+        "say" => Ok(Move::Say(read_seat(word)?, read_upward(other)?)),
         "cut" => made_by(word, Call::Restart(other.parse().map_err(|_| Slip::Cut)?)),
         "receive" => made_by(word, Call::Receive(read_number(other)?)),
         _ => Err(Slip::Command),
+    }
+}
+
+// The kind of this name, if a participant may say it.
+fn read_upward(name: &str) -> Result<Kind, Slip> {
+    let kind = read_kind(name).map_err(|_| Slip::Upward)?;
+    if kind.goes_up() {
+        Ok(kind)
+    } else {
+        Err(Slip::Upward)
     }
 }
 

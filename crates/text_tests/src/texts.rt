@@ -64,61 +64,53 @@ fn ask(
 }
 
 #[test]
-fn calls_are_told_apart(rt: HostRuntime) -> Result<(), Fail> {
+fn calls_of_rehearsals_and_journals(rt: HostRuntime) -> Result<(), Fail> {
     let heap = rt.alloc();
     let journal = |file, count| Some(Command::Journal { file, count });
+    let script = |file| Some(Command::RehearseFile { file });
     ask(&rt, heap, &[], Some(Command::Step))?;
-    ask(&rt, heap, &["journal"], Some(Command::Demonstrate))?;
-    ask(&rt, heap, &["rehearse"], Some(Command::Rehearse))?;
-    ask(
-        &rt,
-        heap,
-        &["rehearse", "tray"],
-        Some(Command::RehearseFile { file: "tray" }),
-    )?;
-    ask(&rt, heap, &["rehearse", "f", "g"], None)?;
-    ask(
-        &rt,
-        heap,
-        &["coordinator", "tray"],
-        Some(Command::CoordinatorOnTray),
-    )?;
-    ask(
-        &rt,
-        heap,
-        &["coordinator", "journal", "44"],
-        Some(Command::CoordinatorOnJournal { bytes: "44" }),
-    )?;
-    ask(&rt, heap, &["coordinator"], None)?;
     ask(&rt, heap, &["--help"], Some(Command::Help))?;
+    ask(&rt, heap, &["rehearse"], Some(Command::Rehearse))?;
+    ask(&rt, heap, &["rehearse", "tray"], script("tray"))?;
+    ask(&rt, heap, &["rehearse", "f", "g"], None)?;
+    ask(&rt, heap, &["journal"], Some(Command::Demonstrate))?;
     ask(&rt, heap, &["journal", "f", "3"], journal("f", "3"))?;
     ask(&rt, heap, &["journal", "3", "f"], journal("3", "f"))?;
-    ask(
-        &rt,
-        heap,
-        &["line", "queue", "3"],
-        Some(Command::Queue { places: "3" }),
-    )?;
-    ask(&rt, heap, &["line", "board"], Some(Command::Board))?;
-    ask(&rt, heap, &["line", "queue"], None)?;
-    ask(
-        &rt,
-        heap,
-        &["participant", "tray"],
-        Some(Command::ParticipantOnTray),
-    )?;
-    ask(
-        &rt,
-        heap,
-        &["participant", "journal", "44"],
-        Some(Command::ParticipantOnJournal { bytes: "44" }),
-    )?;
-    ask(&rt, heap, &["participant", "tray", "44"], None)?;
-    ask(&rt, heap, &["participant", "board"], None)?;
-    ask(&rt, heap, &["board", "line"], None)?;
     ask(&rt, heap, &["journal", "f"], None)?;
     ask(&rt, heap, &["journal", "f", "3", "x"], None)?;
     ask(&rt, heap, &["journals", "f", "3"], None)?;
     ask(&rt, heap, &[""], None)?;
+    Ok(())
+}
+
+#[test]
+fn calls_of_lines_and_parties(rt: HostRuntime) -> Result<(), Fail> {
+    let heap = rt.alloc();
+    let queue = |places| Some(Command::Queue { places });
+    let coordinator = |bytes| Some(Command::CoordinatorOnJournal { bytes });
+    let participant = |bytes| Some(Command::ParticipantOnJournal { bytes });
+    let on_tray = Some(Command::CoordinatorOnTray);
+    ask(&rt, heap, &["line", "queue", "3"], queue("3"))?;
+    ask(&rt, heap, &["line", "board"], Some(Command::Board))?;
+    ask(&rt, heap, &["line", "queue"], None)?;
+    ask(&rt, heap, &["board", "line"], None)?;
+    ask(&rt, heap, &["coordinator", "tray"], on_tray)?;
+    ask(
+        &rt,
+        heap,
+        &["coordinator", "journal", "44"],
+        coordinator("44"),
+    )?;
+    ask(&rt, heap, &["coordinator"], None)?;
+    let on_tray = Some(Command::ParticipantOnTray);
+    ask(&rt, heap, &["participant", "tray"], on_tray)?;
+    ask(
+        &rt,
+        heap,
+        &["participant", "journal", "44"],
+        participant("44"),
+    )?;
+    ask(&rt, heap, &["participant", "tray", "44"], None)?;
+    ask(&rt, heap, &["participant", "board"], None)?;
     Ok(())
 }
