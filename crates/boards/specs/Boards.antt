@@ -2,7 +2,7 @@
 use Rattle.std.specs.Prelude.{◌≡◌, ℕ, suc, Bool, is_some, ◌+◌, ◌%◌, ◌^◌, List, [], ◌∷◌, Some, None, Option, slice_set}
 use Rattle.lines.specs.Lines.{notes_in}
 use Rattle.words.specs.Notes.{Note, note_in, row_of, cell_of}
-use Rattle.lines.specs.Ring.{first}
+use Rattle.lines.specs.Ring.{first, turned}
 use Rattle.boards.specs.Sizes.{cell_count}
 use Rattle.boards.specs.declared.board.Board.{Board}
 use Rattle.words.specs.declared.row.Row.{Row}
@@ -37,3 +37,10 @@ past (Some m) h n = (h + n + 1) % cell_count
 -- where the next search begins, after one that began at h and found the rows in this order: behind the first filled cell, or as before
 abbrev pub moved_on : ℕ → List Row → ℕ
 moved_on h ws = past (first (notes_in ws)) h (leading ws)
+
+-- what a take gives of a board, and what it does to it: the next filled cell's notification, going round, and no cell is cleared
+pub record BoardGives (b : Board) (o : Option Note) (c : Board) : Type 0 where
+  pub gave : o ≡ first (notes_in (turned b.cells b.next))
+  pub cells : c.cells ≡ b.cells
+  pub next : c.next ≡ moved_on b.next (turned b.cells b.next)
+  pub posted : c.posts ≡ b.posts

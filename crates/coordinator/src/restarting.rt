@@ -2,7 +2,6 @@ ghost use Rattle.std.specs.Prelude.{◌≡◌, ◌++◌, ◌==◌};
 ghost use Rattle.std.specs.Option.{option_map};
 ghost use Rattle.agreement.specs.CoordinatorRules.{done_if, table_of};
 ghost use Rattle.agreement.specs.Logs.{first, is_decision, log_of};
-ghost use Rattle.agreement.specs.Turns.{done};
 ghost use Rattle.coordinator.specs.Calls.{Wakes, woken};
 ghost use Rattle.seats.specs.declared.set.SeatSet.{SeatSet};
 ghost use Rattle.records.specs.Recs.{Rec};

@@ -1,6 +1,7 @@
 -- What each step at a desk does.
 use Rattle.std.specs.Prelude.{◌≡◌, ℕ, ◌+◌, ◌%◌, ◌^◌, true, List, reverse, Ok, Err, Some, None, Result, Option, slice_index_or}
 use Rattle.std.specs.List.{slice_get}
+use Rattle.std.specs.Option.{option_map}
 use Rattle.std.specs.declared.alloc.AllocError.{AllocError}
 use Rattle.agreement.specs.CoordinatorRules as C
 use Rattle.agreement.specs.Logs.{LogState}
@@ -53,6 +54,10 @@ taken_at i w = slice_get (reverse w.office.mail.taken) i
 -- this notification was posted on the line, once: by a step of the line's own, and counted
 abbrev pub PostedOn : {N : Type 0} → LineMeans N → Note → N → N → Type 0
 PostedOn mn n l k = mn.step l n k × (mn.posts k ≡ (mn.posts l + 1) % 2 ^ 64)
+
+-- this was taken off the line, or nothing: as the line's own rules give it, and no post was counted
+abbrev pub TakenOff : {N : Type 0} → LineMeans N → Option Notification → N → N → Type 0
+TakenOff mn o l k = mn.gives l (option_map note_of o) k × (mn.posts k ≡ mn.posts l)
 
 -- what a step that posts does on the line: it posts a notification that is so; or it does nothing, since it could not be, or for want of memory
 abbrev pub LineBy : {N : Type 0} → LineMeans N → (Note → Type 0) → N → N → Result (Option (Unit {0})) AllocError → Type 0

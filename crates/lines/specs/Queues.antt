@@ -1,7 +1,7 @@
 -- What a queue means, whatever its numbers are.
 use Rattle.std.specs.Prelude.{◌≡◌, ℕ, ◌+◌, ◌%◌, ◌^◌, cond, List, length, Some, None, Option, nat_lt}
 use Rattle.words.specs.Notes.{Note, note_in, row_of}
-use Rattle.lines.specs.Ring.{ring, pushed}
+use Rattle.lines.specs.Ring.{ring, first, rest, pushed}
 use Rattle.lines.specs.declared.queue.Queue.{Queue}
 use Rattle.words.specs.declared.row.Row.{Row}
 
@@ -29,3 +29,10 @@ pub record QueueStep (q : Queue Row) (n : Note) (p : Queue Row) : Type 0 where
 abbrev pub offered : Option Row → Option Note
 offered None = None
 offered (Some w) = note_in w
+
+-- what a take gives of a queue of rows, and what it does to it: the oldest comes out
+pub record QueueGives (q : Queue Row) (o : Option Note) (p : Queue Row) : Type 0 where
+  pub gave : o ≡ offered (first (held q))
+  pub held : held p ≡ rest (held q)
+  pub room : room p ≡ room q
+  pub posted : posted p ≡ posted q

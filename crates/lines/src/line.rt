@@ -1,4 +1,5 @@
-ghost use Rattle.std.specs.Prelude.{◌≡◌, ℕ, ◌+◌, ◌%◌, ◌^◌, Bool, true, false, List, [], ◌∷◌, ◌++◌, length, IfSome};
+ghost use Rattle.std.specs.Prelude.{◌≡◌, ℕ, ◌+◌, ◌%◌, ◌^◌, Bool, true, false, List, [], ◌∷◌, ◌++◌, length, Option, IfSome};
+ghost use Rattle.std.specs.Option.{option_map};
 ghost use Rattle.lines.specs.Lines.{In, Within, Chain, notes_in, wound};
 ghost use Rattle.words.specs.Notes.{Note, note_of};
 ghost use Rattle.words.specs.declared.notification.Notification.{Notification};
@@ -17,6 +18,9 @@ pub trait Line {
     // What a post does to this line, by its own rules.
     ghost step: { Self → Note → Self → Type 0 };
 
+    // What a take gives, and what it does to this line, by its own rules.
+    ghost gives: { Self → Option Note → Self → Type 0 };
+
     // Posts a notification: whatever waits afterwards waited before or is the one posted.
     fn post(&mut self, notification: Notification)
         ensures waits { Within (waiting self.new) (waiting self.old ++ note_of notification ∷ []) }
@@ -27,7 +31,8 @@ pub trait Line {
     fn take(&mut self) -> Option<Notification>
         ensures waited { IfSome result (λ n. In (note_of n) (waiting self.old)) }
         ensures waits { Within (waiting self.new) (waiting self.old) }
-        ensures counted { posts self.new ≡ posts self.old };
+        ensures counted { posts self.new ≡ posts self.old }
+        ensures given { gives self.old (option_map note_of result) self.new };
 
     // Posts the notifications of the rows, in their order; a row that is no notification's is passed over.
     fn post_all(&mut self, rows: &[Row])

@@ -6,7 +6,7 @@ use Rattle.agreement.specs.Statement.{NoTwoEndDifferently, DecisionBacked, Answe
 use Rattle.agreement.specs.World.{World, expires, settles, resends, restarts, seat_in, at_first, Clear}
 use Rattle.agreement.specs.declared.participant.State.{State as PartState}
 use Rattle.rehearsals.specs.Moves.{seat_of}
-use Rattle.desks.specs.Steps.{RegisteredAs, AskedCommit, AskedRollback, AskedOutcome, Headed, HeadReceived, Joined, Acted, ActReceived, Voted, RestartedAt, PostedAt, Said, Took, NotGiven, NotTaken, NotJoined, NotAwaited, CannotSay, PostedOn, given_at, places}
+use Rattle.desks.specs.Steps.{RegisteredAs, AskedCommit, AskedRollback, AskedOutcome, Headed, HeadReceived, Joined, Acted, ActReceived, Voted, RestartedAt, PostedAt, Said, Took, NotGiven, NotTaken, NotJoined, NotAwaited, CannotSay, PostedOn, TakenOff, given_at, places}
 use Rattle.desks.specs.Worlds.{world_of, state_in}
 use Rattle.rehearsals.specs.declared.moves.Call.{Call}
 use Rattle.rehearsals.specs.declared.moves.Call.TheVariants.{Expire, Settle, Resend, Receive, Restart}
@@ -132,7 +132,7 @@ module _ {C P N : Type 0} (mc : LogMeans C) (mp : LogMeans P) (mn : LineMeans N)
     Happened (Participant s c) e = Acts s.value c e
     Happened (Post i) e = ((e ≡ E.Posted) × PostedAt t w v i × OnLine (λ n. given_at i w ≡ Some n) × LogsStay) ⊎ Cannot (NotGiven i w) e
     Happened (Say s k) e = ((e ≡ E.Posted) × Said t w v s.value k × OnLine (λ n. n ≡ note t s.value k) × LogsStay) ⊎ Cannot (CannotSay s.value k w) e
-    Happened Take e = (a : Option Notification) × (e ≡ E.Took a) × Took t w v a × (mn.posts r'.desk.line ≡ mn.posts r.desk.line) × LogsStay
+    Happened Take e = (a : Option Notification) × (e ≡ E.Took a) × Took t w v a × TakenOff mn a r.desk.line r'.desk.line × LogsStay
 
     -- the move was made, or could not be, and the trace has one entry more, which tells what there is behind it
     pub record Plays (m : Move) : Type 0 where

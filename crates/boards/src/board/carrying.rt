@@ -1,11 +1,11 @@
 ghost use Rattle.std.specs.Prelude.{◌≡◌, ◌+◌, ◌%◌, ◌^◌, ◌<◌, false, [], ◌∷◌, ◌++◌, replicate, IfSome};
 ghost use Rattle.std.specs.Option.{option_map};
 ghost use Rattle.std.specs.List.{position};
-ghost use Rattle.boards.specs.Boards.{BoardStep, blank_row, filled, moved_on};
+ghost use Rattle.boards.specs.Boards.{BoardStep, BoardGives, blank_row, filled};
 ghost use Rattle.boards.specs.Kept.{never, keeps-posted};
 ghost use Rattle.lines.specs.Lines.{In, Within, notes_in};
 ghost use Rattle.words.specs.Notes.{note_of, row_of, cell_of};
-ghost use Rattle.lines.specs.Ring.{first, turned};
+ghost use Rattle.lines.specs.Ring.{turned};
 ghost use Rattle.boards.specs.Sizes.{cell_count};
 
 use super::{Board, CELLS};
@@ -66,6 +66,8 @@ impl Line for Board {
 
     ghost step = { BoardStep };
 
+    ghost gives = { BoardGives };
+
     // Beyond what every line promises: it overwrites its cell, and no other.
     fn post(&mut self, notification: Notification)
         ensures waits { Within (notes_in self.new.cells) (notes_in self.old.cells ++ note_of notification ∷ []) }
@@ -82,9 +84,7 @@ impl Line for Board {
         ensures waited { IfSome result (λ n. In (note_of n) (notes_in self.old.cells)) }
         ensures waits { Within (notes_in self.new.cells) (notes_in self.old.cells) }
         ensures counted { self.new.posts ≡ self.old.posts }
-        ensures taken { option_map note_of result ≡ first (notes_in (turned self.old.cells self.old.next)) }
-        ensures cells { self.new.cells ≡ self.old.cells }
-        ensures next { self.new.next ≡ moved_on self.old.next (turned self.old.cells self.old.next) }
+        ensures given { BoardGives self.old (option_map note_of result) self.new }
     {
         let ahead = self.ahead()?;
         let at = (self.next + ahead) % CELLS;

@@ -1,6 +1,6 @@
 ghost use Rattle.std.specs.Prelude.{◌≡◌, MatchResult, Some};
 ghost use Rattle.agreement.specs.Turns.{note};
-ghost use Rattle.desks.specs.Steps.{Did, Tried, PostedAt, Said, Took, NotGiven, CannotSay, LineBy, given_at};
+ghost use Rattle.desks.specs.Steps.{Did, Tried, PostedAt, Said, Took, NotGiven, CannotSay, LineBy, TakenOff, given_at};
 ghost use Rattle.desks.specs.Worlds.{world_of};
 
 use super::{Desk, Party};
@@ -34,7 +34,7 @@ impl<C: Log, P: Log, N: Line> Desk<C, P, N> {
     pub fn take(&mut self) -> Result<Option<Notification>, AllocError>
         ensures transaction { self.new.transaction ≡ self.old.transaction }
         ensures right { self.new.right ≡ self.old.right }
-        ensures line { MatchResult result (λ _. N.Line.posts self.new.line ≡ N.Line.posts self.old.line) (λ _. self.new.line ≡ self.old.line) }
+        ensures line { MatchResult result (λ n. TakenOff N.Line n self.old.line self.new.line) (λ _. self.new.line ≡ self.old.line) }
         ensures step { Did (Took self.old.transaction (world_of C.Log P.Log N.Line self.old) (world_of C.Log P.Log N.Line self.new)) (world_of C.Log P.Log N.Line self.old) (world_of C.Log P.Log N.Line self.new) result }
     {
         self.taken.reserve(1)?;

@@ -3,8 +3,7 @@ ghost use Rattle.std.specs.Option.{option_map};
 ghost use Rattle.lines.specs.Kept.{full-drops, free-keeps};
 ghost use Rattle.lines.specs.Lines.{In, Within, notes_in};
 ghost use Rattle.words.specs.Notes.{note_of, row_of};
-ghost use Rattle.lines.specs.Queues.{held, posted, room, QueueStep, offered};
-ghost use Rattle.lines.specs.Ring.{first, rest, pushed};
+ghost use Rattle.lines.specs.Queues.{held, posted, room, QueueStep, QueueGives};
 
 use super::Queue;
 use crate::line::{Counted, Line};
@@ -17,6 +16,8 @@ impl<'a> Line for Queue<'a, Row> {
     ghost posts = { λ q. posted q };
 
     ghost step = { QueueStep };
+
+    ghost gives = { QueueGives };
 
     // Beyond what every line promises: it goes behind the others, or is dropped where the buffer is full.
     fn post(&mut self, notification: Notification)
@@ -32,9 +33,7 @@ impl<'a> Line for Queue<'a, Row> {
         ensures waited { IfSome result (λ n. In (note_of n) (notes_in (held self.old))) }
         ensures waits { Within (notes_in (held self.new)) (notes_in (held self.old)) }
         ensures counted { posted self.new ≡ posted self.old }
-        ensures taken { option_map note_of result ≡ offered (first (held self.old)) }
-        ensures held { held self.new ≡ rest (held self.old) }
-        ensures room { room self.new ≡ room self.old }
+        ensures given { QueueGives self.old (option_map note_of result) self.new }
     {
         Notification::try_from(self.pop()?).ok()
     }
