@@ -318,9 +318,3 @@ cut-shut f n k width ps P c o u y = record {
         let s : j < k - width = d.1 in
         let w : covers ps j ≡ f j = c.done j (omega arith) m in
         grind (arith, nat_tests)
-
--- a range of parted ones, by its place
-pub parted-at : (a n : ℕ) (ps : List Pair) (i : ℕ) (d : Pair) → parted a n ps ≡ true → i < length ps → (get_or ps i d).offset + (get_or ps i d).length ≤ n
-parted-at a n [] i d h l = let no : ⊥ = omega arith in absurd no
-parted-at a n (p ∷ ps) zero d h l = (first a n p ps h).high
-parted-at a n (p ∷ ps) (suc i) d h l = parted-at (p.offset + p.length + 1) n ps i d (first a n p ps h).rest (omega arith)

@@ -1,8 +1,10 @@
 -- What `Ranges` holds, and what reading ranges from bytes answers.
 use Rattle.std.specs.Prelude.{◌≡◌, ℕ, ◌≤◌, true, List, Some, None, Option}
-use Rattle.records.specs.Pairs.{parted, padded, pairs_in}
+use Rattle.records.specs.Pairs.{covers, parted, padded, pairs_in}
 use Rattle.records.specs.declared.ranges.Pair.{Pair}
+use Rattle.seats.specs.Sets.{bits_of}
 use Rattle.seats.specs.Sizes.{seat_count}
+use Rattle.seats.specs.declared.set.SeatSet.{SeatSet}
 use Rattle.records.specs.Sizes.{pair_count}
 use Rattle.records.specs.declared.ranges.Ranges.{Ranges}
 
@@ -15,7 +17,7 @@ pub record Written (c : ℕ) (bs : List ℕ) : Type 0 where
   pub apart : parted 0 seat_count (pairs_in c bs) ≡ true
   pub unused : bs ≡ padded pair_count (pairs_in c bs)
 
--- the ranges that the bytes write, and none exactly if they write none
-abbrev pub ReadsRanges : ℕ → List ℕ → Option Ranges → Type 0
-ReadsRanges c bs (Some r) = Written c bs × (held r ≡ pairs_in c bs)
-ReadsRanges c bs None = Written c bs → ⊥
+-- the seats in the ranges that the bytes write, and none exactly if they write none
+abbrev pub ReadsSeats : ℕ → List ℕ → Option SeatSet → Type 0
+ReadsSeats c bs (Some s) = Written c bs × (s.bits ≡ bits_of seat_count (covers (pairs_in c bs)))
+ReadsSeats c bs None = Written c bs → ⊥

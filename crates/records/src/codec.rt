@@ -62,10 +62,10 @@ fn read_row(bytes: &[u8]) -> Option<Row>
         return None;
     }
     let transaction = u32::from_be_bytes([bytes[0], bytes[1], bytes[2], bytes[3]]);
-    let ranges = Ranges::read(bytes[COUNT_AT], &bytes[CELLS_AT..RECORD_BYTES])?;
+    let seats = Ranges::read_seats(bytes[COUNT_AT], &bytes[CELLS_AT..RECORD_BYTES])?;
     Some(Row {
         transaction,
         kind: bytes[KIND_AT],
-        seats: ranges.seats().bits(),
+        seats: seats.bits(),
     })
 }

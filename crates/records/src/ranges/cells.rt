@@ -1,11 +1,12 @@
 ghost use Rattle.std.specs.Prelude.{◌≡◌, ℕ, ◌+◌, ◌*◌, ◌<◌, ◌≤◌, ◌&&◌, ◌↔◌, length, nat_le, slice_index, EachIndex, IsTrue};
 ghost use Rattle.records.specs.Pairs.{after, padded};
-ghost use Rattle.records.specs.Ranged.{held, ReadsRanges};
+ghost use Rattle.records.specs.Ranged.{held, ReadsSeats};
 ghost use Rattle.seats.specs.Sizes.{seat_count};
 ghost use Rattle.records.specs.Sizes.{pair_count};
 
 use super::{PAIRS, Pair, Ranges};
 use seats::seat::SEATS;
+use seats::set::SeatSet;
 
 // How many bytes a pair takes: its offset and its length.
 const PAIR_CELLS: usize = 2;
@@ -36,10 +37,10 @@ impl Ranges {
             && u16::from(pair.offset) + u16::from(pair.length) <= u16::from(SEATS)
     }
 
-    // The ranges that a count of pairs and their places write, or none where these break a rule.
-    pub(crate) fn read(count: u8, cells: &[u8]) -> Option<Ranges>
+    // The seats in the ranges that a count of pairs and their places write, or none where these break a rule.
+    pub(crate) fn read_seats(count: u8, cells: &[u8]) -> Option<SeatSet>
         requires { length cells.now ≡ 2 * pair_count }
-        ensures { ReadsRanges count cells.now result }
+        ensures { ReadsSeats count cells.now result }
     {
         let used = usize::from(count);
         if used > PAIRS {
@@ -50,6 +51,7 @@ impl Ranges {
             return None;
         }
         let mut ranges = Ranges::none();
+        let mut seats = SeatSet::empty();
         for [offset, length] in written.as_chunks::<PAIR_CELLS>().0 {
             let pair = Pair {
                 offset: *offset,
@@ -58,9 +60,13 @@ impl Ranges {
             if !ranges.fits(pair) {
                 return None;
             }
+            let Some(range) = SeatSet::range(pair.offset, pair.length) else {
+                unreachable()
+            };
             ranges.push(pair);
+            seats = seats.union(range);
         }
-        Some(ranges)
+        Some(seats)
     }
 }
 

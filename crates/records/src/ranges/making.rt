@@ -1,13 +1,12 @@
 ghost use Rattle.std.specs.Prelude.{◌≡◌, ◌+◌, ◌≤◌, [], ◌∷◌, ◌++◌, length};
-ghost use Rattle.records.specs.Pairs.{after, covers, runs};
+ghost use Rattle.records.specs.Pairs.{after, runs};
 ghost use Rattle.records.specs.Ranged.{held};
-ghost use Rattle.seats.specs.Sets.{member, bits_of};
+ghost use Rattle.seats.specs.Sets.{member};
 ghost use Rattle.seats.specs.Sizes.{seat_count};
 ghost use Rattle.records.specs.Sizes.{pair_count};
 
 use super::{Pair, Ranges};
 use arrayvec::ArrayVec;
-use seats::seat::SEATS;
 use seats::set::SeatSet;
 
 impl Ranges {
@@ -39,20 +38,6 @@ impl Ranges {
         self.pairs.push(pair);
         self.next = pair.offset + pair.length + 1;
     }
-
-    // The set of the seats in the ranges.
-    pub(crate) fn seats(&self) -> SeatSet
-        ensures { result.bits ≡ bits_of seat_count (covers (held self.now)) }
-    {
-        let mut seats = SeatSet::empty();
-        for pair in self.pairs.as_slice() {
-            let Some(range) = SeatSet::range(pair.offset, pair.length) else {
-                unreachable()
-            };
-            seats = seats.union(range);
-        }
-        seats
-    }
 }
 
 // The runs of a set of seats.
@@ -61,18 +46,18 @@ impl From<SeatSet> for Ranges {
 
     fn from(seats: SeatSet) -> Ranges {
         let mut ranges = Ranges::none();
-        // by number, since a run ends at a seat that is not in the set; `length` is how many right below k are in it
-        let mut length = 0u8;
-        for k in 0..SEATS + 1 {
-            if seats.has_number(k) {
-                length += 1;
-            } else {
-                if length > 0 {
-                    let offset = k - length;
-                    ranges.push(Pair { offset, length });
-                }
-                length = 0;
-            }
+        // from run to run; `left` is the set from seat k up, moved down by k
+        let mut k = 0u8;
+        let mut left = u32::from(seats.bits());
+        while left != 0 {
+            // proved to lose nothing, and so below
+            let offset = k + left.trailing_zeros() as u8;
+            left >>= left.trailing_zeros();
+            let length = left.trailing_ones() as u8;
+            ranges.push(Pair { offset, length });
+            // the seat behind a run is not in the set
+            left = left >> length >> 1;
+            k = offset + length + 1;
         }
         ranges
     }

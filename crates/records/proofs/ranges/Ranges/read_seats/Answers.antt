@@ -1,12 +1,13 @@
-use Rattle.std.proofs.Common.{◌≡◌, ℕ, ◌+◌, ◌*◌, ◌/◌, ◌<◌, ◌≤◌, true, ◌&&◌, leb, List, [], ◌∷◌, ◌++◌, ◌-◌, length, get_or, sym, ap, ◌∙◌, ap₂, arith}
+use Rattle.std.proofs.Common.{◌≡◌, ℕ, ◌+◌, ◌*◌, ◌/◌, ◌<◌, ◌≤◌, true, ◌&&◌, ◌||◌, ltb, leb, List, [], ◌∷◌, ◌++◌, ◌-◌, length, get_or, sym, ap, ◌∙◌, ap₂, arith}
 use Rattle.std.proofs.lemmas.Bool.Decides.{nat_tests}
 use Rattle.std.specs.Simd.{first_chunks}
-use Rattle.records.specs.Pairs.{pair, after, pairs_in}
+use Rattle.records.specs.Pairs.{pair, after, covers, pairs_in}
 use Rattle.records.specs.Ranged.{held, Written}
 use Rattle.records.specs.declared.ranges.Pair.{Pair}
-use Rattle.records.proofs.PairFacts.{clash}
+use Rattle.records.proofs.PairFacts.{clash, covers-push}
+use Rattle.seats.proofs.SetFacts.{or_swap, same_bits}
 use Rattle.records.proofs.CellFacts.{padded-zero, length-pairs_in, padded-pairs_in, pairs_in-split, pairs_in-more, parted-mid, chunk-at}
-use Rattle.records.proofs.ranges.Ranges.read.Goals as goal
+use Rattle.records.proofs.ranges.Ranges.read_seats.Goals as goal
 
 -- the places behind the pairs that are written are zero
 zeros : (c : ℕ) (bs : List ℕ) → Written c bs → (k : ℕ) → 2 * c ≤ k → get_or bs k 0 ≡ 0
@@ -47,7 +48,7 @@ returns-then-not-fits c w =
     let g = c.as_chunks.ensures.front_len in
     let t = c.loop-offset-test.true in
     let e = chunk c.from-used.result i bs c.split_at.result.0.now c.as_chunks.result.0.now c.as_chunks.ensures.front n c.split_at.ensures.by_index.1 (omega arith) in
-    let inv : held c.loop-offset.ranges ≡ pairs_in i bs = c.loop-offset.invariant in
+    let inv : held c.loop-offset.ranges ≡ pairs_in i bs = c.loop-offset.invariant.0 in
     let f = rw (inv, e) at c.fits.ensures in
     clash c.fits.result (f ∙ follows c.args.count i bs w (omega arith)) c.if-not-fits.true
 
@@ -59,10 +60,17 @@ loop-offset-preserved c =
     let g = c.as_chunks.ensures.front_len in
     let t = c.loop-offset-test.true in
     let e = chunk c.from-used.result i bs c.split_at.result.0.now c.as_chunks.result.0.now c.as_chunks.ensures.front n c.split_at.ensures.by_index.1 (omega arith) in
-    let inv : held c.loop-offset.ranges ≡ pairs_in i bs = c.loop-offset.invariant in
-    c.push.ensures
-    ∙ ap₂ (λ (ps : List Pair) (x : List ℕ). ps ++ pair (get_or x 0 0) (get_or x 1 0) ∷ []) inv e
-    ∙ sym (pairs_in-more i bs)
+    let inv : held c.loop-offset.ranges ≡ pairs_in i bs = c.loop-offset.invariant.0 in
+    let was = held c.loop-offset.ranges in
+    let x = get_or c.as_chunks.result.0.now i [] in
+    let p : Pair = pair (get_or x 0 0) (get_or x 1 0) in (
+      c.push.ensures
+          ∙ ap₂ (λ (ps : List Pair) (x : List ℕ). ps ++ pair (get_or x 0 0) (get_or x 1 0) ∷ []) inv e
+          ∙ sym (pairs_in-more i bs),
+      λ k.
+          c.union-seats.ensures k ∙ ap₂ ◌||◌ (c.loop-offset.invariant.1 k) (c.in-Some.ensures k) ∙ or_swap (covers was k) (leb p.offset k && ltb k (p.offset + p.length))
+          ∙ sym (covers-push was p k) ∙ ap (λ (ps : List Pair). covers ps k) (sym c.push.ensures),
+    )
 
 pub returns : goal.returns
 returns c =
@@ -75,7 +83,7 @@ returns c =
     let end = c.loop-offset.auto.offset-index-end in
     let t = c.loop-offset-test.false in
     let m : i ≡ c.args.count = omega arith in
-    let inv : held r ≡ pairs_in i bs = c.loop-offset.invariant in
+    let inv : held r ≡ pairs_in i bs = c.loop-offset.invariant.0 in
     let f : held r ≡ pairs_in c.args.count bs = inv ∙ ap (λ (m : ℕ). pairs_in m bs) m in
     let zero = c.all_zero.ensures.0 c.if-not-all_zero.false in
     let back = c.split_at.ensures.back_len in
@@ -84,5 +92,6 @@ returns c =
     ap (λ (x : ℕ). get_or bs x 0) (sym j) ∙ sym (c.split_at.ensures.by_index.2 (k - 2 * c.from-used.result) 0)
     ∙ zero (k - 2 * c.from-used.result) (omega (arith, c.requires)) in (
       record { few = omega arith; apart = rw f at r.apart; unused = padded-pairs_in 8 c.args.count bs c.requires (omega arith) z },
-      f,
+      same_bits 16 c.loop-offset.seats.bits (covers (pairs_in c.args.count bs)) c.loop-offset.seats.small
+          (λ k l. c.loop-offset.invariant.1 k ∙ ap (λ (ps : List Pair). covers ps k) f),
     )
