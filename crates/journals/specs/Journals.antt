@@ -27,10 +27,11 @@ pub record Opened (bs : List ℕ) (n : ℕ) (j : Journal) : Type 0 where
   pub safe : safe_in j ≡ take n (recs_in bs)
   pub loose : loose_in j ≡ []
 
--- a refusal names a malformed one of the n records, and gives the buffer back
+-- a refusal names the first of the n records that is malformed, and gives the buffer back
 pub record Refused (bs : List ℕ) (n : ℕ) (m : Malformed) : Type 0 where
   pub within : m.record < n
   pub malformed : MalformedAt bs m.record
+  pub first : BytesSound bs m.record
   pub bytes : vec_items m.bytes ≡ bs
 
 abbrev pub OpenAnswer : List ℕ → ℕ → Result Journal Malformed → Type 0

@@ -22,7 +22,7 @@ impl Journal {
         }
     }
 
-    // The journal of the first `count` records of a buffer, all safe, or the refusal that names a malformed one.
+    // The journal of the first `count` records of a buffer, all safe, or the refusal that names the first malformed one.
     pub fn open(bytes: Vec<u8>, count: usize) -> Result<Journal, Malformed>
         ensures { OpenAnswer bytes.items count result }
     {
@@ -51,9 +51,9 @@ impl Journal {
     }
 }
 
-// One of the first `count` records that is malformed, if any is.
+// The first of the first `count` records that is malformed, if any is.
 fn malformed_in(bytes: &[u8], count: usize) -> Option<usize>
-    ensures { MatchOption result ((record_length * count ≤ length bytes.now) × BytesSound bytes.now count) (λ i. (i < count) × MalformedAt bytes.now i) }
+    ensures { MatchOption result ((record_length * count ≤ length bytes.now) × BytesSound bytes.now count) (λ i. (i < count) × MalformedAt bytes.now i × BytesSound bytes.now i) }
 {
     (0..count).find(|i| is_malformed(bytes, *i))
 }

@@ -10,8 +10,8 @@ use Rattle.journals.proofs.journal.making.malformed_in.Goals as goal
 -- what `find` says of the numbers below n
 named : (bs : List ℕ) (n : ℕ) (o : Option ℕ)
     → MatchOption o ((k : ℕ) → 0 ≤ k → k < n → MalformedAt bs k → ⊥) (λ i. (0 ≤ i) × (i < n) × MalformedAt bs i × ((k : ℕ) → 0 ≤ k → k < i → MalformedAt bs k → ⊥))
-    → MatchOption o ((22 * n ≤ length bs) × BytesSound bs n) (λ i. (i < n) × MalformedAt bs i)
-named bs n (Some i) h = (h.1, h.2)
+    → MatchOption o ((22 * n ≤ length bs) × BytesSound bs n) (λ i. (i < n) × MalformedAt bs i × BytesSound bs i)
+named bs n (Some i) h = (h.1, h.2, λ k l. h.3 k (omega arith) l)
 named bs n None h = let s : BytesSound bs n = λ i l. h i (omega arith) l in (whole bs n s, s)
 
 pub returns : goal.returns
