@@ -1,3 +1,4 @@
 pub mod FaultFacts
 pub mod NoteFacts
 pub mod OutboxFacts
+pub mod RowFacts
