@@ -56,6 +56,10 @@ module _ {C P N : Type 0} (mc : LogMeans C) (mp : LogMeans P) (mn : LineMeans N)
   abbrev pub world_of : Desk C P N → World
   world_of d = world (log_of mc d.log) (office (coord_of d.coordinator) (map (party_of mp) d.seats.items) (mail_of d)) (reverse d.told.items)
 
+  -- what the worlds of two desks, one before a step and one behind it, are to each other
+  abbrev pub Between : Desk C P N → Desk C P N → (World → World → Type 0) → Type 0
+  Between d e relation = relation (world_of d) (world_of e)
+
 -- the state of the participant that has joined there
 abbrev pub state_in : W.Party → Option PartState
 state_in W.nobody = None

@@ -3,7 +3,7 @@ ghost use Rattle.agreement.specs.Logs.{log_of};
 ghost use Rattle.participant.specs.Calls.{Obeys, Leaves, expired, resent, woken};
 ghost use Rattle.agreement.specs.World.{settles, expires, resends};
 ghost use Rattle.desks.specs.Steps.{Tried, Acted, ActReceived, Voted, RestartedAt, NotTaken, NotJoined, places};
-ghost use Rattle.desks.specs.Worlds.{world_of};
+ghost use Rattle.desks.specs.Worlds.{Between};
 
 use super::{Desk, Party, Store};
 use crate::rows::keep;
@@ -27,7 +27,7 @@ impl<C: Log, P: Log, N: Line> Desk<C, P, N> {
         ensures transaction { self.new.transaction ≡ self.old.transaction }
         ensures right { self.new.right ≡ self.old.right }
         ensures line { self.new.line ≡ self.old.line }
-        ensures step { Tried (Acted self.old.transaction (world_of C.Log P.Log N.Line self.old) (world_of C.Log P.Log N.Line self.new) seat.value (settles places)) (NotJoined seat.value (world_of C.Log P.Log N.Line self.old)) (world_of C.Log P.Log N.Line self.old) (world_of C.Log P.Log N.Line self.new) result }
+        ensures step { Between C.Log P.Log N.Line self.old self.new (λ w v. Tried (Acted self.old.transaction w v seat.value (settles places)) (NotJoined seat.value w) w v result) }
     {
         self.given.reserve(OUTBOX_PLACES)?;
         let mut outbox = [Row::BLANK; OUTBOX_PLACES];
@@ -47,7 +47,7 @@ impl<C: Log, P: Log, N: Line> Desk<C, P, N> {
         ensures transaction { self.new.transaction ≡ self.old.transaction }
         ensures right { self.new.right ≡ self.old.right }
         ensures line { self.new.line ≡ self.old.line }
-        ensures step { Tried (Acted self.old.transaction (world_of C.Log P.Log N.Line self.old) (world_of C.Log P.Log N.Line self.new) seat.value (expires places)) (NotJoined seat.value (world_of C.Log P.Log N.Line self.old)) (world_of C.Log P.Log N.Line self.old) (world_of C.Log P.Log N.Line self.new) result }
+        ensures step { Between C.Log P.Log N.Line self.old self.new (λ w v. Tried (Acted self.old.transaction w v seat.value (expires places)) (NotJoined seat.value w) w v result) }
     {
         self.given.reserve(OUTBOX_PLACES)?;
         let mut outbox = [Row::BLANK; OUTBOX_PLACES];
@@ -67,7 +67,7 @@ impl<C: Log, P: Log, N: Line> Desk<C, P, N> {
         ensures transaction { self.new.transaction ≡ self.old.transaction }
         ensures right { self.new.right ≡ self.old.right }
         ensures line { self.new.line ≡ self.old.line }
-        ensures step { Tried (Acted self.old.transaction (world_of C.Log P.Log N.Line self.old) (world_of C.Log P.Log N.Line self.new) seat.value (resends places)) (NotJoined seat.value (world_of C.Log P.Log N.Line self.old)) (world_of C.Log P.Log N.Line self.old) (world_of C.Log P.Log N.Line self.new) result }
+        ensures step { Between C.Log P.Log N.Line self.old self.new (λ w v. Tried (Acted self.old.transaction w v seat.value (resends places)) (NotJoined seat.value w) w v result) }
     {
         self.given.reserve(OUTBOX_PLACES)?;
         let mut outbox = [Row::BLANK; OUTBOX_PLACES];
@@ -88,7 +88,7 @@ impl<C: Log, P: Log, N: Line> Desk<C, P, N> {
         ensures transaction { self.new.transaction ≡ self.old.transaction }
         ensures right { self.new.right ≡ self.old.right }
         ensures line { self.new.line ≡ self.old.line }
-        ensures step { Tried (Voted self.old.transaction (world_of C.Log P.Log N.Line self.old) (world_of C.Log P.Log N.Line self.new) seat.value ballot) (NotJoined seat.value (world_of C.Log P.Log N.Line self.old)) (world_of C.Log P.Log N.Line self.old) (world_of C.Log P.Log N.Line self.new) result }
+        ensures step { Between C.Log P.Log N.Line self.old self.new (λ w v. Tried (Voted self.old.transaction w v seat.value ballot) (NotJoined seat.value w) w v result) }
     {
         self.given.reserve(OUTBOX_PLACES)?;
         let mut outbox = [Row::BLANK; OUTBOX_PLACES];
@@ -109,7 +109,7 @@ impl<C: Log, P: Log, N: Line> Desk<C, P, N> {
         ensures transaction { self.new.transaction ≡ self.old.transaction }
         ensures right { self.new.right ≡ self.old.right }
         ensures line { self.new.line ≡ self.old.line }
-        ensures step { Tried (ActReceived self.old.transaction (world_of C.Log P.Log N.Line self.old) (world_of C.Log P.Log N.Line self.new) seat.value number) (NotTaken number (world_of C.Log P.Log N.Line self.old) ⊎ NotJoined seat.value (world_of C.Log P.Log N.Line self.old)) (world_of C.Log P.Log N.Line self.old) (world_of C.Log P.Log N.Line self.new) result }
+        ensures step { Between C.Log P.Log N.Line self.old self.new (λ w v. Tried (ActReceived self.old.transaction w v seat.value number) (NotTaken number w ⊎ NotJoined seat.value w) w v result) }
     {
         self.given.reserve(OUTBOX_PLACES)?;
         let Some(notification) = self.taken.get(number) else {
@@ -131,7 +131,7 @@ impl<C: Log, P: Log, N: Line> Desk<C, P, N> {
         ensures transaction { self.new.transaction ≡ self.old.transaction }
         ensures right { self.new.right ≡ self.old.right }
         ensures line { self.new.line ≡ self.old.line }
-        ensures step { RestartedAt P.Log self.old.seats.items self.old.transaction (world_of C.Log P.Log N.Line self.old) (world_of C.Log P.Log N.Line self.new) seat.value n result }
+        ensures step { Between C.Log P.Log N.Line self.old self.new (λ w v. RestartedAt P.Log self.old.seats.items self.old.transaction w v seat.value n result) }
     {
         let Party::Joined(store) = &mut self.seats[usize::from(seat.number())] else {
             return None;

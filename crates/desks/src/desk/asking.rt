@@ -1,6 +1,6 @@
 ghost use Rattle.std.specs.Prelude.{◌≡◌, None, MatchResult, is_some};
 ghost use Rattle.desks.specs.Steps.{Did, Tried, RegisteredAs, AskedCommit, AskedRollback, AskedOutcome};
-ghost use Rattle.desks.specs.Worlds.{newcomer, world_of};
+ghost use Rattle.desks.specs.Worlds.{Between, newcomer};
 
 use super::{Desk, Party};
 use crate::rows::keep;
@@ -18,7 +18,7 @@ impl<C: Log, P: Log + Drop, N: Line> Desk<C, P, N> {
         ensures transaction { self.new.transaction ≡ self.old.transaction }
         ensures right { self.new.right ≡ self.old.right }
         ensures line { self.new.line ≡ self.old.line }
-        ensures step { Did (AskedOutcome self.old.transaction (world_of C.Log P.Log N.Line self.old) (world_of C.Log P.Log N.Line self.new)) (world_of C.Log P.Log N.Line self.old) (world_of C.Log P.Log N.Line self.new) result }
+        ensures step { Between C.Log P.Log N.Line self.old self.new (λ w v. Did (AskedOutcome self.old.transaction w v) w v result) }
     {
         let outcome = self.coordinator.outcome();
         self.told.push(outcome)?;
@@ -30,7 +30,7 @@ impl<C: Log, P: Log + Drop, N: Line> Desk<C, P, N> {
         ensures transaction { self.new.transaction ≡ self.old.transaction }
         ensures right { MatchResult result (λ told. (is_some told ≡ is_some self.old.right) × (self.new.right ≡ None)) (λ _. self.new.right ≡ self.old.right) }
         ensures line { self.new.line ≡ self.old.line }
-        ensures step { Tried (AskedCommit self.old.transaction (world_of C.Log P.Log N.Line self.old) (world_of C.Log P.Log N.Line self.new)) (self.old.right ≡ None) (world_of C.Log P.Log N.Line self.old) (world_of C.Log P.Log N.Line self.new) result }
+        ensures step { Between C.Log P.Log N.Line self.old self.new (λ w v. Tried (AskedCommit self.old.transaction w v) (self.old.right ≡ None) w v result) }
     {
         self.given.reserve(OUTBOX_PLACES)?;
         self.told.reserve(1)?;
@@ -52,7 +52,7 @@ impl<C: Log, P: Log + Drop, N: Line> Desk<C, P, N> {
         ensures transaction { self.new.transaction ≡ self.old.transaction }
         ensures right { MatchResult result (λ told. (is_some told ≡ is_some self.old.right) × (self.new.right ≡ None)) (λ _. self.new.right ≡ self.old.right) }
         ensures line { self.new.line ≡ self.old.line }
-        ensures step { Tried (AskedRollback self.old.transaction (world_of C.Log P.Log N.Line self.old) (world_of C.Log P.Log N.Line self.new)) (self.old.right ≡ None) (world_of C.Log P.Log N.Line self.old) (world_of C.Log P.Log N.Line self.new) result }
+        ensures step { Between C.Log P.Log N.Line self.old self.new (λ w v. Tried (AskedRollback self.old.transaction w v) (self.old.right ≡ None) w v result) }
     {
         self.given.reserve(OUTBOX_PLACES)?;
         self.told.reserve(1)?;
@@ -77,7 +77,7 @@ impl<C: Log, P: Log + Drop, N: Line> Desk<C, P, N> {
         ensures transaction { self.new.transaction ≡ self.old.transaction }
         ensures right { self.new.right ≡ self.old.right }
         ensures line { self.new.line ≡ self.old.line }
-        ensures step { Did (RegisteredAs self.old.transaction (world_of C.Log P.Log N.Line self.old) (world_of C.Log P.Log N.Line self.new) durability) (world_of C.Log P.Log N.Line self.old) (world_of C.Log P.Log N.Line self.new) result }
+        ensures step { Between C.Log P.Log N.Line self.old self.new (λ w v. Did (RegisteredAs self.old.transaction w v durability) w v result) }
     {
         self.given.reserve(OUTBOX_PLACES)?;
         let mut outbox = [Row::BLANK; OUTBOX_PLACES];

@@ -1,7 +1,7 @@
 ghost use Rattle.std.specs.Prelude.{◌≡◌, Ok};
 ghost use Rattle.agreement.specs.World.{settles, expires, resends, restarts};
 ghost use Rattle.desks.specs.Steps.{Did, Tried, Headed, HeadReceived, NotTaken, places};
-ghost use Rattle.desks.specs.Worlds.{world_of};
+ghost use Rattle.desks.specs.Worlds.{Between};
 
 use super::Desk;
 use crate::rows::keep;
@@ -20,7 +20,7 @@ impl<C: Log, P: Log, N: Line> Desk<C, P, N> {
         ensures transaction { self.new.transaction ≡ self.old.transaction }
         ensures right { self.new.right ≡ self.old.right }
         ensures line { self.new.line ≡ self.old.line }
-        ensures step { Did (Headed self.old.transaction (world_of C.Log P.Log N.Line self.old) (world_of C.Log P.Log N.Line self.new) (settles places)) (world_of C.Log P.Log N.Line self.old) (world_of C.Log P.Log N.Line self.new) result }
+        ensures step { Between C.Log P.Log N.Line self.old self.new (λ w v. Did (Headed self.old.transaction w v (settles places)) w v result) }
     {
         self.given.reserve(OUTBOX_PLACES)?;
         let mut outbox = [Row::BLANK; OUTBOX_PLACES];
@@ -34,7 +34,7 @@ impl<C: Log, P: Log, N: Line> Desk<C, P, N> {
         ensures transaction { self.new.transaction ≡ self.old.transaction }
         ensures right { self.new.right ≡ self.old.right }
         ensures line { self.new.line ≡ self.old.line }
-        ensures step { Did (Headed self.old.transaction (world_of C.Log P.Log N.Line self.old) (world_of C.Log P.Log N.Line self.new) (expires places)) (world_of C.Log P.Log N.Line self.old) (world_of C.Log P.Log N.Line self.new) result }
+        ensures step { Between C.Log P.Log N.Line self.old self.new (λ w v. Did (Headed self.old.transaction w v (expires places)) w v result) }
     {
         self.given.reserve(OUTBOX_PLACES)?;
         let mut outbox = [Row::BLANK; OUTBOX_PLACES];
@@ -48,7 +48,7 @@ impl<C: Log, P: Log, N: Line> Desk<C, P, N> {
         ensures transaction { self.new.transaction ≡ self.old.transaction }
         ensures right { self.new.right ≡ self.old.right }
         ensures line { self.new.line ≡ self.old.line }
-        ensures step { Did (Headed self.old.transaction (world_of C.Log P.Log N.Line self.old) (world_of C.Log P.Log N.Line self.new) (resends places)) (world_of C.Log P.Log N.Line self.old) (world_of C.Log P.Log N.Line self.new) result }
+        ensures step { Between C.Log P.Log N.Line self.old self.new (λ w v. Did (Headed self.old.transaction w v (resends places)) w v result) }
     {
         self.given.reserve(OUTBOX_PLACES)?;
         let mut outbox = [Row::BLANK; OUTBOX_PLACES];
@@ -65,7 +65,7 @@ impl<C: Log, P: Log, N: Line> Desk<C, P, N> {
         ensures transaction { self.new.transaction ≡ self.old.transaction }
         ensures right { self.new.right ≡ self.old.right }
         ensures line { self.new.line ≡ self.old.line }
-        ensures step { Tried (HeadReceived self.old.transaction (world_of C.Log P.Log N.Line self.old) (world_of C.Log P.Log N.Line self.new) number) (NotTaken number (world_of C.Log P.Log N.Line self.old)) (world_of C.Log P.Log N.Line self.old) (world_of C.Log P.Log N.Line self.new) result }
+        ensures step { Between C.Log P.Log N.Line self.old self.new (λ w v. Tried (HeadReceived self.old.transaction w v number) (NotTaken number w) w v result) }
     {
         self.given.reserve(OUTBOX_PLACES)?;
         let Some(notification) = self.taken.get(number) else {
@@ -82,7 +82,7 @@ impl<C: Log, P: Log, N: Line> Desk<C, P, N> {
         ensures transaction { self.new.transaction ≡ self.old.transaction }
         ensures right { self.new.right ≡ self.old.right }
         ensures line { self.new.line ≡ self.old.line }
-        ensures step { Headed self.old.transaction (world_of C.Log P.Log N.Line self.old) (world_of C.Log P.Log N.Line self.new) (restarts (C.Log.survives self.old.log n)) (Ok 0) }
+        ensures step { Between C.Log P.Log N.Line self.old self.new (λ w v. Headed self.old.transaction w v (restarts (C.Log.survives self.old.log n)) (Ok 0)) }
     {
         replace_with(self, n, Desk::restarted);
     }
@@ -91,7 +91,7 @@ impl<C: Log, P: Log, N: Line> Desk<C, P, N> {
         ensures transaction { result.0.transaction ≡ self.transaction }
         ensures right { result.0.right ≡ self.right }
         ensures line { result.0.line ≡ self.line }
-        ensures step { Headed self.transaction (world_of C.Log P.Log N.Line self) (world_of C.Log P.Log N.Line result.0) (restarts (C.Log.survives self.log n)) (Ok 0) }
+        ensures step { Between C.Log P.Log N.Line self result.0 (λ w v. Headed self.transaction w v (restarts (C.Log.survives self.log n)) (Ok 0)) }
     {
         let Desk {
             transaction,

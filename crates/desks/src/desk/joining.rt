@@ -1,7 +1,7 @@
 ghost use Rattle.std.specs.Prelude.{◌≡◌, ◌⊎◌, MatchResult};
 ghost use Rattle.agreement.specs.Logs.{Fresh, log_of};
 ghost use Rattle.desks.specs.Steps.{Joined, NotAwaited};
-ghost use Rattle.desks.specs.Worlds.{world_of};
+ghost use Rattle.desks.specs.Worlds.{Between};
 
 use super::{Desk, Party, Store};
 use crate::fresh::is_fresh;
@@ -16,7 +16,7 @@ impl<C: Log, P: Log + Drop, N: Line> Desk<C, P, N> {
         ensures transaction { self.new.transaction ≡ self.old.transaction }
         ensures right { self.new.right ≡ self.old.right }
         ensures line { self.new.line ≡ self.old.line }
-        ensures step { MatchResult result (λ _. Joined self.old.transaction (world_of C.Log P.Log N.Line self.old) (world_of C.Log P.Log N.Line self.new) seat.value (log_of P.Log log)) (λ back. (back ≡ log) × (NotAwaited seat.value (world_of C.Log P.Log N.Line self.old) ⊎ (Fresh self.old.transaction (log_of P.Log log) → ⊥)) × (world_of C.Log P.Log N.Line self.new ≡ world_of C.Log P.Log N.Line self.old)) }
+        ensures step { Between C.Log P.Log N.Line self.old self.new (λ w v. MatchResult result (λ _. Joined self.old.transaction w v seat.value (log_of P.Log log)) (λ back. (back ≡ log) × (NotAwaited seat.value w ⊎ (Fresh self.old.transaction (log_of P.Log log) → ⊥)) × (v ≡ w))) }
     {
         let transaction = self.transaction;
         if !is_fresh(&log, transaction) {

@@ -1,7 +1,7 @@
 ghost use Rattle.std.specs.Prelude.{◌≡◌, MatchResult, Some};
 ghost use Rattle.agreement.specs.Turns.{note};
 ghost use Rattle.desks.specs.Steps.{Did, Tried, PostedAt, Said, Took, NotGiven, CannotSay, LineBy, TakenOff, given_at};
-ghost use Rattle.desks.specs.Worlds.{world_of};
+ghost use Rattle.desks.specs.Worlds.{Between, world_of};
 
 use super::{Desk, Party};
 use lines::line::Line;
@@ -17,7 +17,7 @@ impl<C: Log, P: Log, N: Line> Desk<C, P, N> {
         ensures transaction { self.new.transaction ≡ self.old.transaction }
         ensures right { self.new.right ≡ self.old.right }
         ensures line { LineBy N.Line (λ n. given_at number (world_of C.Log P.Log N.Line self.old) ≡ Some n) self.old.line self.new.line result }
-        ensures step { Tried (λ _. PostedAt self.old.transaction (world_of C.Log P.Log N.Line self.old) (world_of C.Log P.Log N.Line self.new) number) (NotGiven number (world_of C.Log P.Log N.Line self.old)) (world_of C.Log P.Log N.Line self.old) (world_of C.Log P.Log N.Line self.new) result }
+        ensures step { Between C.Log P.Log N.Line self.old self.new (λ w v. Tried (λ _. PostedAt self.old.transaction w v number) (NotGiven number w) w v result) }
     {
         let Some(row) = self.given.get(number) else {
             return Ok(None);
@@ -35,7 +35,7 @@ impl<C: Log, P: Log, N: Line> Desk<C, P, N> {
         ensures transaction { self.new.transaction ≡ self.old.transaction }
         ensures right { self.new.right ≡ self.old.right }
         ensures line { MatchResult result (λ n. TakenOff N.Line n self.old.line self.new.line) (λ _. self.new.line ≡ self.old.line) }
-        ensures step { Did (Took self.old.transaction (world_of C.Log P.Log N.Line self.old) (world_of C.Log P.Log N.Line self.new)) (world_of C.Log P.Log N.Line self.old) (world_of C.Log P.Log N.Line self.new) result }
+        ensures step { Between C.Log P.Log N.Line self.old self.new (λ w v. Did (Took self.old.transaction w v) w v result) }
     {
         self.taken.reserve(1)?;
         let Some(notification) = self.line.take() else {
@@ -50,7 +50,7 @@ impl<C: Log, P: Log, N: Line> Desk<C, P, N> {
         ensures transaction { self.new.transaction ≡ self.old.transaction }
         ensures right { self.new.right ≡ self.old.right }
         ensures line { LineBy N.Line (λ n. n ≡ note self.old.transaction seat.value kind) self.old.line self.new.line result }
-        ensures step { Tried (λ _. Said self.old.transaction (world_of C.Log P.Log N.Line self.old) (world_of C.Log P.Log N.Line self.new) seat.value kind) (CannotSay seat.value kind (world_of C.Log P.Log N.Line self.old)) (world_of C.Log P.Log N.Line self.old) (world_of C.Log P.Log N.Line self.new) result }
+        ensures step { Between C.Log P.Log N.Line self.old self.new (λ w v. Tried (λ _. Said self.old.transaction w v seat.value kind) (CannotSay seat.value kind w) w v result) }
     {
         let volatile = matches!(self.seats[usize::from(seat.number())], Party::Volatile);
         if !volatile || !kind.goes_up() {
