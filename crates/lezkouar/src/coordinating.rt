@@ -5,6 +5,7 @@ use crate::calling::{Act, Extra, Lent, PLACES, TRANSACTION, read_act, words_of};
 use crate::playing::{Play, play_all};
 use crate::reading::{read_durability, read_kind, read_seat};
 use crate::refusal::{Refusal, Slip};
+use crate::scene::steps::Closing;
 use agreement::coordinator::{Durability, State};
 use coordinator::{ClosingRight, Coordinator, Returned, Told};
 use core::mem::replace_with;
@@ -23,13 +24,6 @@ enum Asking {
 
 // What a call answered: what it says beside what it sent, and how many notifications these are, or its fault.
 type Answer = (Option<Extra>, Result<usize, Fault<State>>);
-
-// How its transaction is closed.
-#[derive(Clone, Copy)]
-enum Closing {
-    Commit,
-    Rollback,
-}
 
 // A coordinator that is played, the right to close its transaction until that is spent, and what its calls are lent.
 struct Coordinating<L> {

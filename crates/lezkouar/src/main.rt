@@ -4,19 +4,23 @@
 mod calling;
 mod carrying;
 mod coordinating;
+mod exploring;
 mod playing;
 mod reading;
 mod refusal;
 mod rehearsing;
+mod scene;
 mod script;
 mod showing;
 mod staging;
 mod step;
 mod storing;
+mod tables;
 mod tracing;
 
 use carrying::{play_board, play_queue};
 use coordinating::play_coordinator;
+use exploring::explore;
 use journals::journal::Journal;
 use logs::tray::Tray;
 use refusal::Refusal;
@@ -26,6 +30,7 @@ use std::env;
 use std::process::ExitCode;
 use step::rehearse_step;
 use storing::play_store;
+use tables::{Form, print_tables};
 use wording::call::{Command, USAGE, parse};
 
 // The words of the call, without the program's name.
@@ -66,6 +71,9 @@ fn run<'a>(rt: &HostRuntime, words: &'a [String]) -> Result<(), Refusal<'a>> {
         Command::ParticipantOnJournal { bytes } => play_store(rt, journal(rt, bytes)?),
         Command::Rehearse => rehearse_input(rt),
         Command::RehearseFile { file } => rehearse_file(rt, file),
+        Command::Explore { options } => explore(rt, options),
+        Command::Tables => print_tables(rt, Form::Markdown),
+        Command::TablesAsCsv => print_tables(rt, Form::Csv),
     }
 }
 

@@ -60,6 +60,12 @@ pub(crate) enum Slip {
     Times,
     #[error("WHO is coordinator or a seat from 0 to 15")]
     Who,
+    #[error("explore takes '--stores N', '--volatile M', '--steps S', '--log LOG' and '--line LINE': LOG is 'tray', 'journal BYTES' or 'gathered LOG', LINE is 'any', 'queue PLACES' or 'board'")]
+    Explore,
+    #[error("stores and volatile participants are numbers that come to 16 at most")]
+    Parties,
+    #[error("steps are a number from 0 to 4294967295")]
+    Steps,
 }
 
 // Why a call of the program ends with status 1; the words as they were given.
@@ -83,6 +89,8 @@ pub(crate) enum Refusal<'a> {
     NoScript,
     #[error("there is no memory to play the script")]
     Unplayed,
+    #[error("the rules are not kept: the script on standard output comes to a situation that shows it")]
+    Breach,
     #[error("line {number}: {slip}")]
     Line { number: u64, slip: Slip },
     // The same, where the number of the line is still to be told.

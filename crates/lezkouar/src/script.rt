@@ -3,6 +3,7 @@ use crate::reading::{read_durability, read_kind, read_seat};
 use crate::refusal::{Refusal, Slip};
 use rehearsals::moves::{Call, Move};
 use std::alloc::Global;
+use std::fmt;
 use words::kind::Kind;
 
 // How many places a line has where the script does not say.
@@ -63,6 +64,45 @@ pub(crate) struct Opening {
     pub(crate) log: LogChoice,
     pub(crate) stores: LogChoice,
     pub(crate) line: LineChoice,
+}
+
+// As a script says it.
+impl fmt::Display for LogChoice {
+    fn fmt<W: fmt::Write>(&self, f: &mut fmt::Formatter<W>) -> fmt::Result {
+        f.write_str(match self.gatherers {
+            Gatherers::Zero => "",
+            Gatherers::One => "gathered ",
+            Gatherers::Two => "gathered gathered ",
+        })?;
+        match self.bottom {
+            Bottom::Tray => f.write_str("tray"),
+            Bottom::Journal(bytes) => write!(f, "journal {bytes}"),
+        }
+    }
+}
+
+impl fmt::Display for LineChoice {
+    fn fmt<W: fmt::Write>(&self, f: &mut fmt::Formatter<W>) -> fmt::Result {
+        match *self {
+            LineChoice::Queue(places) => write!(f, "queue {places}"),
+            LineChoice::Board => f.write_str("board"),
+        }
+    }
+}
+
+impl fmt::Display for Opening {
+    fn fmt<W: fmt::Write>(&self, f: &mut fmt::Formatter<W>) -> fmt::Result {
+        let Opening {
+            transaction,
+            log,
+            stores,
+            line,
+        } = self;
+        write!(
+            f,
+            "open {transaction} log {log} stores {stores} line {line}"
+        )
+    }
 }
 
 // What a line of a script asks for, behind the opening.
@@ -146,14 +186,14 @@ fn read_words(words: &[&str], opened: bool) -> Result<Asked, Slip> {
 
 // Whose log is chosen.
 #[derive(Clone, Copy, PartialEq, Eq)]
-enum Whose {
+pub(crate) enum Whose {
     Coordinators,
     Stores,
 }
 
 // What the next word of an opening may be.
 #[derive(Clone, Copy, PartialEq, Eq)]
-enum Awaited {
+pub(crate) enum Awaited {
     Part,
     Log(Whose),
     Bytes(Whose),
@@ -162,6 +202,16 @@ enum Awaited {
 }
 
 impl Opening {
+    // The opening of a transaction where nothing else is said.
+    pub(crate) fn of(transaction: u32) -> Opening {
+        Opening {
+            transaction,
+            log: LogChoice::TRAY,
+            stores: LogChoice::TRAY,
+            line: LineChoice::Queue(QUEUE_PLACES),
+        }
+    }
+
     // The log that is chosen.
     fn choice(&mut self, whose: Whose) -> &mut LogChoice {
         match whose {
@@ -171,13 +221,13 @@ impl Opening {
     }
 
     // Begins a choice, which takes the place of an earlier one.
-    fn choose(&mut self, whose: Whose) -> Awaited {
+    pub(crate) fn choose(&mut self, whose: Whose) -> Awaited {
         *self.choice(whose) = LogChoice::TRAY;
         Awaited::Log(whose)
     }
 
     // Takes the next word, and tells what may follow it.
-    fn take(&mut self, awaited: Awaited, word: &str) -> Result<Awaited, Slip> {
+    pub(crate) fn take(&mut self, awaited: Awaited, word: &str) -> Result<Awaited, Slip> {
         match (awaited, word) {
             (Awaited::Part, "log") => Ok(self.choose(Whose::Coordinators)),
             (Awaited::Part, "stores") => Ok(self.choose(Whose::Stores)),
@@ -213,12 +263,7 @@ fn read_opening(words: &[&str]) -> Result<Opening, Slip> {
     let [transaction, rest @ ..] = words else {
         return Err(Slip::Opening);
     };
-    let mut opening = Opening {
-        transaction: transaction.parse().map_err(|_| Slip::Transaction)?,
-        log: LogChoice::TRAY,
-        stores: LogChoice::TRAY,
-        line: LineChoice::Queue(QUEUE_PLACES),
-    };
+    let mut opening = Opening::of(transaction.parse().map_err(|_| Slip::Transaction)?);
     let mut awaited = Awaited::Part;
     for word in rest {
         awaited = opening.take(awaited, word)?;

@@ -16,7 +16,10 @@ use words::notification::Notification;
 // A log of a kind that a script chooses.
 type BottomLog = Either<Tray, Journal>;
 
-type AnyLog = Either<BottomLog, Either<Gatherer<BottomLog>, Gatherer<Gatherer<BottomLog>>>>;
+pub(crate) type AnyLog = Either<
+    BottomLog,
+    Either<Gatherer<BottomLog>, Gatherer<Gatherer<BottomLog>>>,
+>;
 
 impl LogChoice {
     // A log of this kind, without records.

@@ -215,7 +215,7 @@ pub(crate) enum Ending {
 
 impl Ending {
     // With another that ended so.
-    fn and(self, other: Ending) -> Ending {
+    pub(crate) fn and(self, other: Ending) -> Ending {
         match (self, other) {
             (Ending::Nobody, ending) | (ending, Ending::Nobody) => ending,
             (Ending::Committed, Ending::Committed) => Ending::Committed,
@@ -234,7 +234,7 @@ impl Ending {
     }
 
     // How a coordinator in this state ended.
-    fn of_coordinator(state: State) -> Ending {
+    pub(crate) fn of_coordinator(state: State) -> Ending {
         match state {
             State::Committing | State::Done => Ending::Committed,
             State::Rolled => Ending::RolledBack,
@@ -243,7 +243,7 @@ impl Ending {
     }
 
     // How a participant in this state ended.
-    fn of_participant(state: participant::State) -> Ending {
+    pub(crate) fn of_participant(state: participant::State) -> Ending {
         match state {
             participant::State::Kept => Ending::Committed,
             participant::State::Undone => Ending::RolledBack,

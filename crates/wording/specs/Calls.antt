@@ -1,8 +1,8 @@
 -- The words of a call, and what they ask for.
-use Rattle.std.specs.Prelude.{ℕ, cond, ◌&&◌, List, [], ◌∷◌, Some, None, Option, codes}
+use Rattle.std.specs.Prelude.{ℕ, cond, map, string_bytes, ◌&&◌, List, [], ◌∷◌, Some, None, Option, codes}
 use Rattle.std.specs.Str.{bytes_eq}
 use Rattle.wording.specs.declared.call.Command.{Command}
-use Rattle.wording.specs.declared.call.Command.TheVariants.{Step, Demonstrate, Help, Journal, Queue, Board, CoordinatorOnTray, CoordinatorOnJournal, ParticipantOnTray, ParticipantOnJournal, Rehearse, RehearseFile}
+use Rattle.wording.specs.declared.call.Command.TheVariants.{Step, Demonstrate, Help, Journal, Queue, Board, CoordinatorOnTray, CoordinatorOnJournal, ParticipantOnTray, ParticipantOnJournal, Rehearse, RehearseFile, Explore, Tables, TablesAsCsv}
 
 pub data Asked : Type 0 where
   step : Asked
@@ -17,6 +17,9 @@ pub data Asked : Type 0 where
   participant_on_journal : List ℕ → Asked
   rehearse : Asked
   rehearse_file : List ℕ → Asked
+  explore : List (List ℕ) → Asked
+  tables : Asked
+  tables_as_csv : Asked
   unknown : Asked
 
 -- what a command asks for, with the texts of its words; none is asked for by words that are no call
@@ -33,22 +36,29 @@ asked (Some ParticipantOnTray) = participant_on_tray
 asked (Some (ParticipantOnJournal bytes)) = participant_on_journal bytes.now
 asked (Some Rehearse) = rehearse
 asked (Some (RehearseFile file)) = rehearse_file file.now
+asked (Some (Explore options)) = explore (map string_bytes options.now)
+asked (Some Tables) = tables
+asked (Some TablesAsCsv) = tables_as_csv
 asked None = unknown
 
 abbrev pub asked_one : List ℕ → Asked
 asked_one w =
     cond (bytes_eq w (codes "--help")) help (
     cond (bytes_eq w (codes "journal")) demonstrate (
-    cond (bytes_eq w (codes "rehearse")) rehearse unknown
+    cond (bytes_eq w (codes "rehearse")) rehearse (
+    cond (bytes_eq w (codes "tables")) tables unknown
+    )
     )
     )
 
 abbrev pub asked_two : List ℕ → List ℕ → Asked
 asked_two w x =
     cond (bytes_eq w (codes "rehearse")) (rehearse_file x) (
+    cond (bytes_eq w (codes "tables") && bytes_eq x (codes "--csv")) tables_as_csv (
     cond (bytes_eq w (codes "line") && bytes_eq x (codes "board")) board (
     cond (bytes_eq w (codes "coordinator") && bytes_eq x (codes "tray")) coordinator_on_tray (
     cond (bytes_eq w (codes "participant") && bytes_eq x (codes "tray")) participant_on_tray unknown
+    )
     )
     )
     )
@@ -64,9 +74,14 @@ asked_three w x y =
     )
 
 -- by the number of words
+abbrev pub asked_by_number : List (List ℕ) → Asked
+asked_by_number [] = step
+asked_by_number (w ∷ []) = asked_one w
+asked_by_number (w ∷ (x ∷ [])) = asked_two w x
+asked_by_number (w ∷ (x ∷ (y ∷ []))) = asked_three w x y
+asked_by_number (w ∷ (x ∷ (y ∷ (z ∷ ws)))) = unknown
+
+-- behind 'explore' there may be any words
 abbrev pub asked_by : List (List ℕ) → Asked
 asked_by [] = step
-asked_by (w ∷ []) = asked_one w
-asked_by (w ∷ (x ∷ [])) = asked_two w x
-asked_by (w ∷ (x ∷ (y ∷ []))) = asked_three w x y
-asked_by (w ∷ (x ∷ (y ∷ (z ∷ ws)))) = unknown
+asked_by (w ∷ ws) = cond (bytes_eq w (codes "explore")) (explore ws) (asked_by_number (w ∷ ws))

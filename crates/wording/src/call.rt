@@ -7,6 +7,8 @@ pub const USAGE: &str = "lezkouar: step transactions for engineering desktops
 usage:
   lezkouar                            rehearse a built-in step whose coordinator is cut
   lezkouar rehearse [FILE]            rehearse a step from a script, or from standard input
+  lezkouar explore [OPTIONS]          walk through every situation that a step comes to
+  lezkouar tables [--csv]             print the state tables, each cell as the engine fills it
   lezkouar coordinator tray           play a step's coordinator over a tray
   lezkouar coordinator journal BYTES  the same over a journal of BYTES bytes
   lezkouar participant tray           play a store's side of a step over a tray
@@ -24,6 +26,8 @@ rehearse: open T [log LOG] [stores LOG] [line LINE], register volatile|durable, 
   resend WHO, cut WHO N, say SEAT KIND, post, post I, take, receive WHO I, deliver, run N.
   LOG is tray, journal BYTES or gathered LOG; LINE is queue PLACES or board; WHO is
   coordinator or a seat.
+explore: --stores N (2), --volatile M (1), --steps S (all), --log LOG (tray), --line LINE
+  or any (any).
 coordinator: register volatile|durable, commit, rollback, outcome, receive SEAT KIND,
   receive T SEAT KIND, settle, expire, resend, cut N, outbox N, fill N, log.
 participant: receive KIND, receive T SEAT KIND, vote BALLOT, settle, expire, resend,
@@ -57,6 +61,12 @@ pub enum Command<'a> {
     Rehearse,
     // Rehearse a step from a script in a file.
     RehearseFile { file: &'a str },
+    // Walk through every situation, as these words say.
+    Explore { options: &'a [String] },
+    // Print the state tables.
+    Tables,
+    // Print them as comma-separated values.
+    TablesAsCsv,
 }
 
 // The command that the words of a call, without the program's name, ask for, or none where they are no call.
@@ -65,6 +75,7 @@ pub fn parse(words: &[String]) -> Option<Command<'_>>
 {
     match words {
         [] => Some(Command::Step),
+        [first, options @ ..] if first.as_str() == "explore" => Some(Command::Explore { options }),
         [word] => one_word(word.as_str()),
         [first, second] => two_words(first.as_str(), second.as_str()),
         [first, second, third] => three_words(first.as_str(), second.as_str(), third.as_str()),
@@ -80,6 +91,7 @@ fn one_word(word: &str) -> Option<Command<'_>>
         "--help" => Some(Command::Help),
         "journal" => Some(Command::Demonstrate),
         "rehearse" => Some(Command::Rehearse),
+        "tables" => Some(Command::Tables),
         _ => None,
     }
 }
@@ -90,6 +102,7 @@ fn two_words<'a>(first: &'a str, second: &'a str) -> Option<Command<'a>>
 {
     match (first, second) {
         ("rehearse", file) => Some(Command::RehearseFile { file }),
+        ("tables", "--csv") => Some(Command::TablesAsCsv),
         ("line", "board") => Some(Command::Board),
         ("coordinator", "tray") => Some(Command::CoordinatorOnTray),
         ("participant", "tray") => Some(Command::ParticipantOnTray),
