@@ -1,0 +1,16 @@
+// The library's calls in loops, to be timed, and played from bytes, to be compared with a twin (bench/README.md). Safety is all that is proved of these: no contract says what they answer.
+#![tactic(auto)]
+
+mod asking;
+mod closing;
+pub mod coding;
+pub mod committing;
+mod game;
+pub mod growing;
+pub mod hearing;
+mod keeping;
+pub mod playing;
+pub mod reopening;
+mod sink;
+mod store;
+mod telling;
