@@ -16,11 +16,12 @@ pub struct Queue<'a, T> {
 }
 
 impl<'a, T: Copy> Queue<'a, T> {
-    // An empty queue; what the buffer holds does not matter.
+    // An empty queue; what the buffer holds does not matter, and stays until a push writes over it.
     pub fn new(buffer: &'a mut [T]) -> Queue<'a, T>
         ensures held { held result ≡ [] }
         ensures posted { posted result ≡ 0 }
         ensures room { room result ≡ length buffer.old }
+        ensures buffer { result.buffer.now ≡ buffer.old }
     {
         Queue {
             buffer,
