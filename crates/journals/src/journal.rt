@@ -27,17 +27,17 @@ pub struct Malformed {
 }
 
 impl Malformed {
-    // The number of this fault among those of docs/PROTOCOL.md.
+    /// The number of this fault in the table of faults of docs/PROTOCOL.md.
     pub const NUMBER: u8 = 11;
 
-    // Its number, the published one that programs print.
+    /// Its number, 11: the one that programs print.
     pub fn number(&self) -> u8
         ensures { result ≡ malformed_number }
     {
         Malformed::NUMBER
     }
 
-    // Whether the record leaves the buffer; where it lies inside, it breaks a rule of the format.
+    /// Whether the record leaves the buffer. Where it lies inside, it breaks a rule of docs/JOURNAL.md.
     pub fn is_outside(&self) -> bool
         ensures { result ≡ is_outside self.now }
     {

@@ -12,10 +12,10 @@ pub struct TraceEntry {
 }
 
 impl TraceEntry {
-    // An entry to fill a buffer with.
+    /// An entry to fill a buffer with, before a queue over it is made.
     pub const BLANK: TraceEntry = TraceEntry { state: 0, fault: 0 };
 
-    // The entry of a party in this state behind a call, which was this fault or none.
+    /// The entry of a call that left its party in this state and was this fault, or none: the state's code and the fault's number, 0 for none (docs/PROTOCOL.md has both).
     pub fn of<S: Copy + Into<u8>>(state: S, fault: Option<Fault<S>>) -> TraceEntry
         ensures code { S.converts state result.state }
         ensures number { result.fault ≡ fault_code fault }

@@ -17,10 +17,10 @@ pub struct Full {
 }
 
 impl Full {
-    // The number of this fault among those of docs/PROTOCOL.md.
+    /// The number of this fault in the table of faults of docs/PROTOCOL.md.
     pub const NUMBER: u8 = 10;
 
-    // Its number, the published one that programs print.
+    /// Its number, 10: the one that programs print.
     pub fn number(self) -> u8
         ensures { result ≡ full_number }
     {
