@@ -1,6 +1,6 @@
 -- Adding and reading, for any log.
-use Rattle.std.proofs.Common.{◌≡◌, ℕ, ◌+◌, ◌<◌, ◌≤◌, List, [], ◌∷◌, ◌++◌, length, Some, None, Ok, Option, sym, ap}
-use Rattle.std.proofs.lemmas.Bool.{cond-true, cond-false, lt-ltb, le-ltb}
+use Rattle.std.proofs.Common.{◌≡◌, ℕ, ◌+◌, ◌<◌, List, [], ◌∷◌, ◌++◌, length, Some, None, Ok, Option, sym, ap}
+use Rattle.std.proofs.lemmas.Bool.{cond-true, lt-ltb}
 use Rattle.std.specs.Option.{option_map}
 use Rattle.seats.proofs.ExactFacts.{exactly-has, exactly-never}
 use Rattle.seats.specs.Exactly.{Exactly}
@@ -11,9 +11,6 @@ use Rattle.logs.specs.Adding.{loose_after, add_answer}
 module _ (most : ℕ) (safe loose : List Rec) where
   pub loose-on : (r : Rec) → length safe + length loose < most → loose ++ r ∷ [] ≡ loose_after most safe loose r
   loose-on r h = sym (cond-true _ _ _ (lt-ltb _ _ h))
-
-  pub loose-off : (r : Rec) → most ≤ length safe + length loose → loose ≡ loose_after most safe loose r
-  loose-off r h = sym (cond-false _ _ _ (le-ltb _ _ h))
 
   pub answer-on : length safe + length loose < most → Ok tt ≡ add_answer most safe loose
   answer-on h = sym (cond-true _ _ _ (lt-ltb _ _ h))

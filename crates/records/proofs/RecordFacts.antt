@@ -14,7 +14,7 @@ use Rattle.records.specs.declared.record.Record.{Record}
 use Rattle.records.proofs.CellFacts.{pairs_in-padded, length-padded, length-pairs_in}
 use Rattle.records.proofs.PairFacts.{runs-unique, runs-parted, covers-runs, parted-length}
 use Rattle.seats.proofs.SetFacts.{member-bits, bits-ext, bits-member}
-use Rattle.records.proofs.ValueFacts.{same-model, seats-below}
+use Rattle.records.proofs.ValueFacts.{seats-below}
 
 -- ---- ranges and sets, for any number of seats
 
