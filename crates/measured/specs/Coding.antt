@@ -27,7 +27,7 @@ varied_rec kind i = made_rec kind i (i * 2654435769 % 2 ^ 32 / 2 ^ 16)
 
 -- one more number in a sum, which depends on their order
 unfoldable pub mixed : ℕ → ℕ → ℕ
-mixed sum n = (sum * 31 % 2 ^ 64 + n) % 2 ^ 64
+mixed sum n = (sum * 31 + n) % 2 ^ 64
 
 -- the sum over one byte of each of so many records
 abbrev pub encode_sum : ℕ → ℕ → ℕ

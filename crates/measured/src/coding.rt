@@ -40,7 +40,6 @@ pub(crate) fn varied(kind: u8, i: u32) -> Record
 }
 
 // A sum with one more number in it, which depends on their order.
-#[tactic(auto, unfolding(crate::specs::Coding::mixed))]
 fn mix(sum: u64, number: u64) -> u64
     ensures { result ≡ mixed sum number }
 {
