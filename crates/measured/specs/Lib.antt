@@ -1,1 +1,3 @@
+pub mod Coding
 pub mod Own
+pub mod Sinks

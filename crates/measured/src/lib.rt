@@ -1,4 +1,4 @@
-// The library's calls in loops, to be timed, and played from bytes, to be compared with a twin (bench/README.md). Safety is all that is proved of these: no contract says what they answer.
+// The library's calls in loops, to be timed, and played from bytes, to be compared with a twin (bench/README.md). What `coding` answers is proved, and of the others that they are safe and return.
 #![tactic(auto)]
 
 mod asking;

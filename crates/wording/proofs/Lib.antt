@@ -1,1 +1,2 @@
 pub mod TextFacts
+pub mod SampleFacts

@@ -1,0 +1,2 @@
+pub mod PartFacts
+pub mod SinkFacts
