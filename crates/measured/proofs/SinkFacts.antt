@@ -28,27 +28,11 @@ put-left [] (suc a) x = refl
 put-left (y ∷ b) zero x = refl
 put-left (y ∷ b) (suc a) x = put-left b a x
 
-full-told : (b : List ℕ) (a x : ℕ) → length b ≤ a → take a b ≡ take a b ++ take (length (drop a b)) (x ∷ [])
-full-told b a x h = rw (drop_all a b h) (sym (append-nil (take a b)))
-
-full-left : (b : List ℕ) (a : ℕ) → length b ≤ a → drop a b ≡ drop 1 (drop a b)
-full-left b a h = rw (drop_all a b h) refl
-
 pub tells-put : (s t : Sink) (x : ℕ) → s.at < length s.out.now → t.at ≡ s.at + 1 → t.out.now ≡ slice_set s.out.now s.at x → t.out.ghost_name ≡ s.out.ghost_name → Tells s (x ∷ []) t
 tells-put s t x h a o r = record {
   told = rw (a, o, add-one) (put-told s.out.now s.at x h);
   left = rw (a, o, add-one) (put-left s.out.now s.at x);
   same_reference = r;
-}
-
-pub tells-full : (s : Sink) (x : ℕ) → length s.out.now ≤ s.at → Tells s (x ∷ []) s
-tells-full s x h = record { told = full-told s.out.now s.at x h; left = full-left s.out.now s.at h; same_reference = refl }
-
-pub tells-none : (s : Sink) → Tells s [] s
-tells-none s = record {
-  told = rw (take-nothing (length (left s))) (sym (append-nil (told s)));
-  left = refl;
-  same_reference = refl;
 }
 
 pub tells-more : (s t u : Sink) (xs ys : List ℕ) → Tells s xs t → Tells t ys u → Tells s (xs ++ ys) u
