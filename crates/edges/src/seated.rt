@@ -1,13 +1,13 @@
-ghost use Rattle.std.specs.Prelude.{◌≡◌, ◌<◌, [], ◌∷◌, replicate, Some, None, slice_index_or};
+ghost use Rattle.std.specs.Prelude.{◌≡◌, ◌<◌, Some, None};
 ghost use Rattle.agreement.specs.declared.coordinator.Durability.TheVariants.{Durable};
-ghost use Rattle.agreement.specs.declared.coordinator.Standing.TheVariants.{Idle, Voted as VotedFor};
+ghost use Rattle.agreement.specs.declared.coordinator.Standing.TheVariants.{Voted as VotedFor};
 ghost use Rattle.agreement.specs.declared.coordinator.State.TheVariants.{Active, VolatileVoting, DurableVoting, Noted, Committing, Rolled};
 ghost use Rattle.words.specs.declared.fault.Fault.TheVariants.{InvalidState, CannotRegister};
 ghost use Rattle.words.specs.declared.kind.Kind.TheVariants.{Prepared};
 ghost use Rattle.edges.specs.Expected.{Case, Woken, both_voted, both_seats, marked, volatile_votes, durable_votes, decided, registering};
 ghost use Rattle.edges.specs.Stages.{Makes, Stands};
 ghost use Rattle.edges.specs.declared.stage.Answer.TheVariants.{Seated, Sent, Refused};
-ghost use Rattle.edges.specs.declared.stage.Call.TheVariants.{Register, AskCommit, Hear, Expire, Settle, Restart};
+ghost use Rattle.edges.specs.declared.stage.Call.TheVariants.{Register, Hear, Expire, Restart};
 
 use crate::cases::{AllSeats, DurableSeats};
 use crate::stage::{Shown, Stage};
