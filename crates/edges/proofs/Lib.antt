@@ -1,1 +1,3 @@
-mod TableFacts
+mod Making
+mod Playing
+mod Filling

@@ -1,98 +1,77 @@
 -- What the cases at the edge of the rules are to show.
-use Rattle.std.specs.Prelude.{ℕ, List, [], ◌∷◌, Some, None, Ok, Err, replicate}
-use Rattle.agreement.specs.declared.coordinator.Durability.TheVariants.{Durable}
-use Rattle.agreement.specs.declared.coordinator.Outcome.TheVariants.{Open}
-use Rattle.agreement.specs.declared.coordinator.Standing.TheVariants.{Idle, Voted}
-use Rattle.agreement.specs.declared.coordinator.State.TheVariants.{VolatileVoting, DurableVoting, Ready, Noted, Committing, Done, Rolled}
-use Rattle.agreement.specs.declared.participant.State.TheVariants.{Noted as VoteNoted, Undone}
+use Rattle.std.specs.Prelude.{◌≡◌, ℕ, List, [], ◌∷◌, Some, None, Result, replicate, slice_index_or}
+use Rattle.agreement.specs.Names.{Place}
+use Rattle.agreement.specs.declared.coordinator.Durability.TheVariants.{Volatile, Durable}
+use Rattle.agreement.specs.declared.coordinator.Standing.TheVariants.{Voted as VotedFor}
+use Rattle.agreement.specs.declared.coordinator.State.{State}
+use Rattle.agreement.specs.declared.participant.State.{State as StoreState}
 use Rattle.records.specs.Recs.{Rec}
-use Rattle.words.specs.declared.fault.Fault.TheVariants.{InvalidState, CannotRegister, NoPlace}
+use Rattle.words.specs.declared.fault.Fault.{Fault}
+use Rattle.words.specs.declared.kind.Kind.TheVariants.{Prepared}
 use Rattle.words.specs.declared.row.Row.{Row}
-use Rattle.coordinator.specs.declared.answers.Told.{Told}
-use Rattle.edges.specs.declared.cases.Seen.{Seen}
-use Rattle.edges.specs.declared.cases.NoSeats.{NoSeats}
-use Rattle.edges.specs.declared.cases.DurableSeats.{DurableSeats}
-use Rattle.edges.specs.declared.cases.AllSeats.{AllSeats}
-use Rattle.edges.specs.declared.cases.Stranger.{Stranger}
-use Rattle.edges.specs.declared.cases.Voted.{Voted as VotedCase}
-use Rattle.edges.specs.declared.cases.Restarted.{Restarted}
+use Rattle.edges.specs.Stages.{Shows, played, blank_row, mark}
+use Rattle.edges.specs.declared.stage.Answer.{Answer}
+use Rattle.edges.specs.declared.stage.Call.{Call}
+use Rattle.edges.specs.declared.stage.Call.TheVariants.{Register, AskCommit, Hear, Settle}
+use Rattle.edges.specs.declared.stage.Shown.{Shown}
+use Rattle.edges.specs.declared.storing.Cast.{Cast}
+
+-- behind some calls, one more was made: it gave this answer and left this state, and all that was seen is as the rules' turn says
+pub record Case (behind : List Call) (call : Call) (answer : Answer) (state : State) (s : Shown) : Type 0 where
+  pub turn : Shows call (played behind) s
+  pub answered : s.answer ≡ answer
+  pub left : s.after.state ≡ state
 
 abbrev pub row : ℕ → ℕ → ℕ → Row
 row t s k = record { transaction = t; seat = s; kind = k }
 
-abbrev pub blank_row : Row
-blank_row = row 0 0 0
-
--- no seats: asking to commit gives Ready, and settling twice gives Noted and then Done
-abbrev pub told_open : Told
-told_open = record { outcome = Open; sent = 0 }
-
-abbrev pub no_seats : NoSeats
-no_seats = record {
-  told = told_open;
-  asked = Ready;
-  settled = record { answer = Ok 0; state = Noted };
-  settled_again = record { answer = Ok 0; state = Done };
-}
-
--- expiry rolls back in Ready, and changes nothing in Noted
-abbrev pub expired_in_ready : Seen
-expired_in_ready = record { answer = Ok 0; state = Rolled }
-
-abbrev pub expired_in_noted : Seen
-expired_in_noted = record { answer = Ok 0; state = Noted }
-
--- a durable participant gets the next seat, Idle, while volatile ones vote, and is refused while durable ones vote: fault 3
-abbrev pub durable_seats : DurableSeats
-durable_seats = record {
-  state = VolatileVoting;
-  seat = 1;
-  sent = 0;
-  place = Some (Durable, Idle);
-  late_state = DurableVoting;
-  late = InvalidState;
-}
-
--- the sixteenth seat is 15, and there is no further one: fault 4
-abbrev pub all_seats : AllSeats
-all_seats = record { last = 15; more = CannotRegister }
-
 -- whoever says Prepared after the roll-back gets Rollback, here seat 9, which is nobody's
-abbrev pub stranger_heard : Stranger
-stranger_heard = record {
-  heard = record { answer = Ok 1; state = Rolled };
-  outbox = row 7 9 3 ∷ replicate 15 blank_row;
-}
+abbrev pub stranger_told : List Row
+stranger_told = row 7 9 3 ∷ replicate 15 blank_row
 
--- with one place to spare, a vote for the step is fault 10, which tells of the one, Aborted is sent, and nothing is written
-abbrev pub voted_with_one : VotedCase
-voted_with_one = record {
-  answer = Err (NoPlace 1 1);
-  state = Undone;
-  outbox = row 7 0 6 ∷ [];
-  spare = 1;
-}
+-- a durable participant at seat 0 and a volatile one at seat 1 vote for the step, and it settles: Noted
+abbrev pub both_voted : List Call
+both_voted = Register Durable ∷ Register Volatile ∷ AskCommit ∷ Hear 1 Prepared ∷ Hear 0 Prepared ∷ Settle ∷ []
 
--- with two, the Vote is written, and one is left
-abbrev pub voted_with_two : VotedCase
-voted_with_two = record {
-  answer = Ok 0;
-  state = VoteNoted;
-  outbox = blank_row ∷ [];
-  spare = 1;
-}
+abbrev pub both_seats : List Place
+both_seats = Some (Durable, VotedFor) ∷ Some (Volatile, VotedFor) ∷ replicate 14 None
 
--- the Decision of transaction 7 with seat 0
+abbrev pub marked : List Row
+marked = replicate 16 mark
+
+-- a volatile participant at seat 0 votes
+abbrev pub volatile_votes : List Call
+volatile_votes = Register Volatile ∷ AskCommit ∷ []
+
+-- a durable one at seat 1 registered meanwhile, and votes now
+abbrev pub durable_votes : List Call
+durable_votes = Register Volatile ∷ AskCommit ∷ Register Durable ∷ Hear 0 Prepared ∷ []
+
+-- a durable participant at seat 0 voted for the step, and the Decision is written and loose
+abbrev pub decided : List Call
+decided = Register Durable ∷ AskCommit ∷ Hear 0 Prepared ∷ Settle ∷ []
+
+-- so many durable participants register
+abbrev pub registering : ℕ → List Call
+registering n = replicate n (Register Durable)
+
+-- a vote for the step was answered so, and left this state, this row in the outbox, and so many places in the log
+pub record Voted (answer : Result ℕ (Fault StoreState)) (state : StoreState) (row : Row) (spare : ℕ) (c : Cast) : Type 0 where
+  pub answered : c.answer ≡ answer
+  pub left : c.after.state ≡ state
+  pub sent : c.after.outbox ≡ row ∷ []
+  pub spared : c.after.spare ≡ spare
+
+-- what is restarted: the place of seat 0, and how many records its log has, which are safe
+pub record Woken (place : Place) (records : ℕ) (s : Shown) : Type 0 where
+  pub seat : slice_index_or s.after.table 0 None ≡ place
+  pub safe : s.after.safe ≡ records
+  pub loose : s.after.loose ≡ 0
+
+-- the Decision of transaction 7 with seats 0, 1, 2 and 5
 abbrev pub decision : Rec
-decision = record { transaction = 7; kind = 1; seats = 1 }
+decision = record { transaction = 7; kind = 1; seats = 39 }
 
--- loose when the power goes: where it is lost, the transaction is rolled back, and where it outlasts the cut, committed
-abbrev pub decision_lost : Restarted
-decision_lost = record { state = Rolled; place = None; records = 0 }
-
-abbrev pub decision_kept : Restarted
-decision_kept = record { state = Committing; place = Some (Durable, Voted); records = 1 }
-
--- the Decision of transaction 7 with seats 0, 1, 2 and 5: two runs, three seats from 0 on and one from 5 on
+-- its bytes: two runs, three seats from 0 on and one from 5 on
 abbrev pub decision_bytes : List ℕ
 decision_bytes = 0 ∷ 0 ∷ 0 ∷ 7 ∷ 1 ∷ 2 ∷ 0 ∷ 3 ∷ 5 ∷ 1 ∷ replicate 12 0

@@ -1,2 +1,3 @@
 pub mod Expected
-pub mod Standing
+pub mod Stages
+pub mod Votes

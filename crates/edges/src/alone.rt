@@ -1,109 +1,61 @@
-ghost use Rattle.std.specs.Prelude.{◌≡◌};
-ghost use Rattle.agreement.specs.CoordinatorRules.{blank_table};
-ghost use Rattle.agreement.specs.declared.coordinator.State.TheVariants.{Ready};
-ghost use Rattle.agreement.specs.Turns.{reply_of};
-ghost use Rattle.coordinator.specs.Calls.{Leaves, expired};
-ghost use Rattle.edges.specs.Expected.{no_seats, told_open, expired_in_ready, expired_in_noted, stranger_heard};
-ghost use Rattle.edges.specs.Standing.{Stands};
+ghost use Rattle.std.specs.Prelude.{◌≡◌, [], ◌∷◌, replicate};
+ghost use Rattle.agreement.specs.declared.coordinator.Outcome.TheVariants.{Open};
+ghost use Rattle.agreement.specs.declared.coordinator.State.TheVariants.{Ready, Noted, Done, Rolled};
+ghost use Rattle.edges.specs.Expected.{Case, stranger_told};
+ghost use Rattle.edges.specs.Stages.{head_of, played, blank_row};
+ghost use Rattle.edges.specs.declared.stage.Answer.TheVariants.{Told, Sent};
+ghost use Rattle.edges.specs.declared.stage.Call.TheVariants.{AskCommit, Hear, Expire, Settle};
+ghost use Rattle.words.specs.declared.kind.Kind.TheVariants.{Prepared};
 
-use crate::cases::{NoSeats, Seen, Stranger};
-use crate::{OUTBOX, TRANSACTION};
-use coordinator::{Coordinator, Told};
-use logs::tray::Tray;
+use crate::cases::NoSeats;
+use crate::stage::{Shown, Stage};
 use seats::seat::Seat;
 use words::kind::Kind;
-use words::notification::Notification;
 
 // The seat of nobody.
 const STRANGER: u8 = 9;
 
-// A coordinator without seats that was asked to commit, and what it told.
-fn asked() -> (Coordinator, Told)
-    ensures coordinator { Stands 7 Ready blank_table result.0 }
-    ensures told { result.1 ≡ told_open }
+// A coordinator without seats is asked to commit.
+fn asked() -> (Stage, Shown)
+    ensures case { Case [] AskCommit (Told Open 0) Ready result.1 }
+    ensures head { head_of result.0 ≡ played (AskCommit ∷ []) }
+    ensures outbox { result.0.outbox ≡ replicate 16 blank_row }
 {
-    let (mut coordinator, right) = Coordinator::open(TRANSACTION);
-    let mut outbox = OUTBOX;
-    match coordinator.ask_commit(right, &mut outbox) {
-        Ok(told) => (coordinator, told),
-        Err(returned) => unreachable(),
-    }
+    let (mut stage, right) = Stage::open();
+    let shown = stage.ask_commit(right);
+    (stage, shown)
 }
 
 // Asks to commit and settles twice.
 pub(crate) fn settle_twice() -> NoSeats
-    ensures { result ≡ no_seats }
+    ensures asked { Case [] AskCommit (Told Open 0) Ready result.asked }
+    ensures settled { Case (AskCommit ∷ []) Settle (Sent 0) Noted result.settled }
+    ensures again { Case (AskCommit ∷ Settle ∷ []) Settle (Sent 0) Done result.settled_again }
 {
-    let (mut coordinator, told) = asked();
-    let asked = coordinator.state();
-    let mut log = Tray::new();
-    let mut outbox = OUTBOX;
-    let answer = coordinator.settle(&mut log, &mut outbox);
-    let settled = Seen {
-        answer,
-        state: coordinator.state(),
-    };
-    let second_answer = coordinator.settle(&mut log, &mut outbox);
-    let settled_again = Seen {
-        answer: second_answer,
-        state: coordinator.state(),
-    };
+    let (mut stage, asked) = asked();
+    let settled = stage.settle();
+    let settled_again = stage.settle();
     NoSeats {
-        told,
         asked,
         settled,
         settled_again,
     }
 }
 
-// Its time is up, and tells what is seen.
-fn expire(coordinator: &mut Coordinator) -> Seen
-    ensures state { result.state ≡ coordinator.new.state }
-    ensures turn { Leaves (expired coordinator.old 16) coordinator.old coordinator.new (reply_of result.answer) }
-{
-    let mut outbox = OUTBOX;
-    let answer = coordinator.expire(&mut outbox);
-    Seen {
-        answer,
-        state: coordinator.state(),
-    }
-}
-
 // Its time is up in Ready.
-pub(crate) fn expire_in_ready() -> Seen
-    ensures { result ≡ expired_in_ready }
+pub(crate) fn expire_in_ready() -> Shown
+    ensures { Case (AskCommit ∷ []) Expire (Sent 0) Rolled result }
 {
-    let (mut coordinator, _) = asked();
-    expire(&mut coordinator)
-}
-
-// Its time is up in Noted.
-pub(crate) fn expire_in_noted() -> Seen
-    ensures { result ≡ expired_in_noted }
-{
-    let (mut coordinator, _) = asked();
-    let mut log = Tray::new();
-    let mut outbox = OUTBOX;
-    let _ = coordinator.settle(&mut log, &mut outbox);
-    expire(&mut coordinator)
+    let (mut stage, _) = asked();
+    stage.expire()
 }
 
 // Hears Prepared from the seat of nobody, once rolled back.
-pub(crate) fn hear_stranger() -> Stranger
-    ensures { result ≡ stranger_heard }
+pub(crate) fn hear_stranger() -> Shown
+    ensures case { Case (AskCommit ∷ Expire ∷ []) (Hear 9 Prepared) (Sent 1) Rolled result }
+    ensures outbox { result.after.outbox ≡ stranger_told }
 {
-    let (mut coordinator, _) = asked();
-    let mut outbox = OUTBOX;
-    let _ = coordinator.expire(&mut outbox);
-    let vote = Notification {
-        transaction: TRANSACTION,
-        seat: Seat::new(STRANGER).unwrap(),
-        kind: Kind::Prepared,
-    };
-    let answer = coordinator.receive(vote, &mut outbox);
-    let heard = Seen {
-        answer,
-        state: coordinator.state(),
-    };
-    Stranger { heard, outbox }
+    let (mut stage, _) = asked();
+    let _ = stage.expire();
+    stage.hear(Seat::new(STRANGER).unwrap(), Kind::Prepared)
 }

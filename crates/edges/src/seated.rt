@@ -1,127 +1,104 @@
-ghost use Rattle.std.specs.Prelude.{◌≡◌, [], ◌∷◌};
-ghost use Rattle.agreement.specs.declared.coordinator.Standing.TheVariants.{Asked, Voted};
+ghost use Rattle.std.specs.Prelude.{◌≡◌, ◌<◌, Some, None};
 ghost use Rattle.agreement.specs.declared.coordinator.Durability.TheVariants.{Durable};
-ghost use Rattle.agreement.specs.declared.coordinator.State.TheVariants.{Noted};
-ghost use Rattle.logs.specs.Trays.{safe_in, loose_in};
+ghost use Rattle.agreement.specs.declared.coordinator.Standing.TheVariants.{Voted as VotedFor};
+ghost use Rattle.agreement.specs.declared.coordinator.State.TheVariants.{Active, VolatileVoting, DurableVoting, Noted, Committing, Rolled};
+ghost use Rattle.words.specs.declared.fault.Fault.TheVariants.{InvalidState, CannotRegister};
 ghost use Rattle.words.specs.declared.kind.Kind.TheVariants.{Prepared};
-ghost use Rattle.agreement.specs.Turns.{note, reply_of};
-ghost use Rattle.coordinator.specs.Calls.{Leaves, received, registered, registered_reply};
-ghost use Rattle.edges.specs.Expected.{durable_seats, all_seats, decision, decision_lost, decision_kept};
-ghost use Rattle.edges.specs.Standing.{Stands, voting, one_seat};
+ghost use Rattle.edges.specs.Expected.{Case, Woken, both_voted, both_seats, marked, volatile_votes, durable_votes, decided, registering};
+ghost use Rattle.edges.specs.Stages.{Makes, Stands};
+ghost use Rattle.edges.specs.declared.stage.Answer.TheVariants.{Seated, Sent, Refused};
+ghost use Rattle.edges.specs.declared.stage.Call.TheVariants.{Register, Hear, Expire, Restart};
 
-use crate::cases::{AllSeats, DurableSeats, Restarted};
-use crate::{OUTBOX, TRANSACTION};
-use agreement::coordinator::State;
-use coordinator::{Coordinator, Durability, Registered};
-use logs::log::Log;
-use logs::tray::Tray;
+use crate::cases::{AllSeats, DurableSeats};
+use crate::stage::{Shown, Stage};
+use agreement::coordinator::Durability;
 use seats::seat::{SEATS, Seat};
-use words::fault::Fault;
 use words::kind::Kind;
-use words::notification::Notification;
 
-// Registers a participant.
-fn register(
-    coordinator: &mut Coordinator,
-    durability: Durability,
-) -> Result<Registered, Fault<State>>
-    ensures { Leaves (registered coordinator.old 16 durability) coordinator.old coordinator.new (registered_reply result) }
-{
-    let mut outbox = OUTBOX;
-    coordinator.register(durability, &mut outbox)
-}
+// The last seat.
+const LAST: u8 = SEATS - 1;
 
-// A coordinator of one participant that was asked to commit.
-fn asked(durability: Durability) -> Coordinator
-    ensures { Stands 7 (voting durability) (one_seat durability Asked) result }
+// Prepared comes from a seat.
+fn hear_vote(stage: &mut Stage, seat: u8) -> Shown
+    requires { seat < 16 }
+    ensures { Makes (Hear seat Prepared) stage.old stage.new result }
 {
-    let (mut coordinator, right) = Coordinator::open(TRANSACTION);
-    let _ = register(&mut coordinator, durability);
-    let mut outbox = OUTBOX;
-    match coordinator.ask_commit(right, &mut outbox) {
-        Ok(_) => coordinator,
-        Err(returned) => unreachable(),
-    }
-}
-
-// Hears Prepared from seat 0.
-fn hear_vote(coordinator: &mut Coordinator) -> Result<usize, Fault<State>>
-    ensures { Leaves (received coordinator.old 16 (note 7 0 Prepared)) coordinator.old coordinator.new (reply_of result) }
-{
-    let mut outbox = OUTBOX;
-    let vote = Notification {
-        transaction: TRANSACTION,
-        seat: Seat::new(0).unwrap(),
-        kind: Kind::Prepared,
-    };
-    coordinator.receive(vote, &mut outbox)
+    stage.hear(Seat::new(seat).unwrap(), Kind::Prepared)
 }
 
 // A durable participant registers while a volatile one votes, and another while that one votes.
 pub(crate) fn register_durable() -> DurableSeats
-    ensures { result ≡ durable_seats }
+    ensures early { Case volatile_votes (Register Durable) (Seated 1 0) VolatileVoting result.early }
+    ensures late { Case durable_votes (Register Durable) (Refused InvalidState) DurableVoting result.late }
 {
-    let mut coordinator = asked(Durability::Volatile);
-    let state = coordinator.state();
-    let early = register(&mut coordinator, Durability::Durable).unwrap();
-    let place = coordinator.place(early.seat);
-    let _ = hear_vote(&mut coordinator);
-    let late_state = coordinator.state();
-    let late = register(&mut coordinator, Durability::Durable).unwrap_err();
-    DurableSeats {
-        state,
-        seat: early.seat.number(),
-        sent: early.sent,
-        place,
-        late_state,
-        late,
-    }
+    let (mut stage, right) = Stage::open();
+    let _ = stage.register(Durability::Volatile);
+    let _ = stage.ask_commit(right);
+    let early = stage.register(Durability::Durable);
+    let _ = hear_vote(&mut stage, 0);
+    let late = stage.register(Durability::Durable);
+    DurableSeats { early, late }
+}
+
+// A durable and a volatile participant voted, and it settled.
+fn both_voted() -> Stage
+    ensures { Stands both_voted result }
+{
+    let (mut stage, right) = Stage::open();
+    let _ = stage.register(Durability::Durable);
+    let _ = stage.register(Durability::Volatile);
+    let _ = stage.ask_commit(right);
+    let _ = hear_vote(&mut stage, 1);
+    let _ = hear_vote(&mut stage, 0);
+    let _ = stage.settle();
+    stage
+}
+
+// Its time is up in Noted, with two participants that voted, and a mark at each place of the outbox.
+pub(crate) fn expire_in_noted() -> Shown
+    ensures case { Case both_voted Expire (Sent 0) Noted result }
+    ensures table { result.before.table ≡ both_seats }
+    ensures outbox { result.before.outbox ≡ marked }
+    ensures unchanged { result.after ≡ result.before }
+{
+    let mut stage = both_voted();
+    stage.mark();
+    stage.expire()
 }
 
 // Registers until no seat is vacant, and once more.
-#[tactic(auto, using(crate::proofs::TableFacts::next))]
 pub(crate) fn register_all() -> AllSeats
-    ensures { result ≡ all_seats }
+    ensures last { Case (registering 15) (Register Durable) (Seated 15 0) Active result.last }
+    ensures more { Case (registering 16) (Register Durable) (Refused CannotRegister) Active result.more }
 {
-    let (mut coordinator, right) = Coordinator::open(TRANSACTION);
-    let mut last = SEATS;
-    for _ in 0..SEATS {
-        let registered = register(&mut coordinator, Durability::Durable).unwrap();
-        last = registered.seat.number();
+    let (mut stage, right) = Stage::open();
+    for _ in 0..LAST {
+        let _ = stage.register(Durability::Durable);
     }
-    let more = register(&mut coordinator, Durability::Durable).unwrap_err();
-    let mut outbox = OUTBOX;
-    match coordinator.ask_rollback(right, &mut outbox) {
-        Ok(_) => AllSeats { last, more },
-        Err(returned) => unreachable(),
-    }
+    let last = stage.register(Durability::Durable);
+    let more = stage.register(Durability::Durable);
+    let _ = stage.ask_commit(right);
+    AllSeats { last, more }
 }
 
-// A coordinator whose Decision, with seat 0, is the one record of its log and loose.
-#[tactic(auto, unfolding(seats::specs::Sets::bits_of))]
-fn decided() -> (Coordinator, Tray)
-    ensures coordinator { Stands 7 Noted (one_seat Durable Voted) result.0 }
-    ensures safe { safe_in result.1 ≡ [] }
-    ensures loose { loose_in result.1 ≡ decision ∷ [] }
+// The Decision of a durable participant is written, and loose.
+fn decided() -> Stage
+    ensures { Stands decided result }
 {
-    let mut coordinator = asked(Durability::Durable);
-    let _ = hear_vote(&mut coordinator);
-    let mut log = Tray::new();
-    let mut outbox = OUTBOX;
-    let _ = coordinator.settle(&mut log, &mut outbox);
-    (coordinator, log)
+    let (mut stage, right) = Stage::open();
+    let _ = stage.register(Durability::Durable);
+    let _ = stage.ask_commit(right);
+    let _ = hear_vote(&mut stage, 0);
+    let _ = stage.settle();
+    stage
 }
 
-// The power goes and comes back behind a loose Decision, and the world chooses n.
-pub(crate) fn restart(n: u32) -> Restarted
-    ensures lost { n ≡ 0 → result ≡ decision_lost }
-    ensures kept { n ≡ 1 → result ≡ decision_kept }
+// The power goes and comes back behind a loose Decision with seat 0, and the world chooses n.
+pub(crate) fn restart(n: u32) -> Shown
+    ensures lost { n ≡ 0 → Case decided (Restart 0) (Sent 0) Rolled result }
+    ensures lost_seat { n ≡ 0 → Woken None 0 result }
+    ensures kept { n ≡ 1 → Case decided (Restart 1) (Sent 0) Committing result }
+    ensures kept_seat { n ≡ 1 → Woken (Some (Durable, VotedFor)) 1 result }
 {
-    let (coordinator, mut log) = decided();
-    let coordinator = coordinator.restart(&mut log, n);
-    Restarted {
-        state: coordinator.state(),
-        place: coordinator.place(Seat::new(0).unwrap()),
-        records: log.count(),
-    }
+    decided().restart(n)
 }
