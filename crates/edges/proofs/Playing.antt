@@ -4,7 +4,7 @@ use Rattle.agreement.specs.CoordinatorRules.{Head}
 use Rattle.agreement.specs.Turns.{done, seated, fails, cannot_register, report_of}
 use Rattle.agreement.specs.declared.coordinator.State.{State}
 use Rattle.words.specs.declared.fault.Fault.{Fault}
-use Rattle.words.specs.declared.fault.Fault.TheVariants.{ShortOutbox, OtherRight, InvalidState, CannotRegister, OtherTransaction, Misdirected, UnknownTransaction, InvalidPeer, Inconsistent, LogFull, NoPlace, Malformed}
+use Rattle.words.specs.declared.fault.Fault.TheVariants.{ShortOutbox, OtherRight, InvalidState, CannotRegister, OtherTransaction, Misdirected, UnknownTransaction, InvalidPeer, Inconsistent, LogFull, NoPlace}
 use Rattle.edges.specs.Expected.{Case}
 use Rattle.edges.specs.Stages.{Makes, Shows, Stands, along, played, turn_of, reply_in, opening}
 use Rattle.edges.specs.declared.stage.Answer.{Answer}
@@ -59,7 +59,6 @@ no_seat (InvalidPeer s x n) e = cc
 no_seat Inconsistent e = cc
 no_seat (LogFull full n) e = cc
 no_seat (NoPlace k n) e = cc
-no_seat (Malformed n) e = cc
 
 said_no_seat : (y : Answer) → reply_in y ≡ fails cannot_register → y ≡ Refused CannotRegister
 said_no_seat (Sent m) e = cc

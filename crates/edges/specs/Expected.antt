@@ -9,7 +9,8 @@ use Rattle.records.specs.Recs.{Rec}
 use Rattle.words.specs.declared.fault.Fault.{Fault}
 use Rattle.words.specs.declared.kind.Kind.TheVariants.{Prepared}
 use Rattle.words.specs.declared.row.Row.{Row}
-use Rattle.edges.specs.Stages.{Shows, played, blank_row, mark}
+use Rattle.edges.specs.Stages.{Shows, played, mark}
+use Rattle.words.specs.Rows.{blank_row}
 use Rattle.edges.specs.declared.stage.Answer.{Answer}
 use Rattle.edges.specs.declared.stage.Call.{Call}
 use Rattle.edges.specs.declared.stage.Call.TheVariants.{Register, AskCommit, Hear, Settle}

@@ -87,6 +87,3 @@ pub record Makes (c : Call) (s d : Stage) (shown : Shown) : Type 0 where
 -- a row that no call writes
 abbrev pub mark : Row
 mark = record { transaction = 9; seat = 9; kind = 9 }
-
-abbrev pub blank_row : Row
-blank_row = record { transaction = 0; seat = 0; kind = 0 }

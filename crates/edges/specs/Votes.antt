@@ -10,7 +10,7 @@ use Rattle.records.specs.Recs.{Rec}
 use Rattle.words.specs.Notes.{row_of}
 use Rattle.words.specs.Outboxes.{laid}
 use Rattle.words.specs.declared.kind.Kind.TheVariants.{Prepare}
-use Rattle.edges.specs.Stages.{blank_row}
+use Rattle.words.specs.Rows.{blank_row}
 use Rattle.edges.specs.declared.storing.Cast.{Cast}
 
 -- a record of another transaction

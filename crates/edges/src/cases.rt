@@ -10,7 +10,7 @@ ghost use Rattle.records.specs.Recs.{model_of};
 ghost use Rattle.words.specs.declared.fault.Fault.TheVariants.{InvalidState, CannotRegister, NoPlace};
 ghost use Rattle.words.specs.declared.kind.Kind.TheVariants.{Prepared};
 ghost use Rattle.edges.specs.Expected.{Case, Voted, Woken, both_voted, both_seats, marked, volatile_votes, durable_votes, decided, registering, stranger_told, row, decision, decision_bytes};
-ghost use Rattle.edges.specs.Stages.{blank_row};
+ghost use Rattle.words.specs.Rows.{blank_row};
 ghost use Rattle.edges.specs.Votes.{Casts};
 ghost use Rattle.edges.specs.declared.stage.Answer.TheVariants.{Seated, Told, Sent, Refused};
 ghost use Rattle.edges.specs.declared.stage.Call.TheVariants.{Register, AskCommit, Hear, Expire, Settle, Restart};

@@ -1,7 +1,8 @@
 ghost use Rattle.std.specs.Prelude.{◌≡◌, replicate};
 ghost use Rattle.agreement.specs.Turns.{reply_of};
 ghost use Rattle.coordinator.specs.Calls.{registered_reply};
-ghost use Rattle.edges.specs.Stages.{Makes, Shows, Views, head_of, opening, reply_in, mark, blank_row, told_of};
+ghost use Rattle.edges.specs.Stages.{Makes, Shows, Views, head_of, opening, reply_in, mark, told_of};
+ghost use Rattle.words.specs.Rows.{blank_row};
 ghost use Rattle.edges.specs.declared.stage.Call.TheVariants.{Register, AskCommit, Hear, Expire, Settle, Restart};
 
 use super::{Answer, Call, Shown, Stage, View};
