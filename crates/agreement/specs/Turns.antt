@@ -2,7 +2,7 @@
 use Rattle.std.specs.Prelude.{ℕ, cond, List, [], length, Ok, Err, Result, nat_lt}
 use Rattle.words.specs.Notes.{Note}
 use Rattle.words.specs.declared.fault.Fault.{Fault}
-use Rattle.words.specs.declared.fault.Fault.TheVariants.{ShortOutbox, OtherRight, InvalidState, CannotRegister, OtherTransaction, Misdirected, UnknownTransaction, InvalidPeer, Inconsistent, LogFull, NoPlace, Malformed}
+use Rattle.words.specs.declared.fault.Fault.TheVariants.{ShortOutbox, OtherRight, InvalidState, CannotRegister, OtherTransaction, Misdirected, UnknownTransaction, InvalidPeer, Inconsistent, LogFull, NoPlace}
 use Rattle.agreement.specs.Names.{Kind, Outcome}
 
 -- what a fault says: a seat by its number, the log's own fault by its capacity; S is the state of the party
@@ -18,7 +18,6 @@ pub data Report (S : Type 0) : Type 0 where
   inconsistent : Report S
   log_full : (capacity : ℕ) → (sent : ℕ) → Report S
   no_place : (spare : ℕ) → (sent : ℕ) → Report S
-  malformed : (index : ℕ) → Report S
 
 -- what a call answers: how many notifications it gives, and with it the seat that was given or the outcome that was told; or a fault
 pub data Reply (S : Type 0) : Type 0 where
@@ -40,21 +39,6 @@ module _ {S : Type 0} where
   report_of Inconsistent = inconsistent
   report_of (LogFull full sent) = log_full full.capacity sent
   report_of (NoPlace spare sent) = no_place spare sent
-  report_of (Malformed n) = malformed n
-
-  abbrev pub report_number : Report S → ℕ
-  report_number short_outbox = 1
-  report_number other_right = 2
-  report_number invalid_state = 3
-  report_number cannot_register = 4
-  report_number other_transaction = 5
-  report_number misdirected = 6
-  report_number unknown_transaction = 7
-  report_number (invalid_peer seat state sent) = 8
-  report_number inconsistent = 9
-  report_number (log_full capacity sent) = 10
-  report_number (no_place spare sent) = 10
-  report_number (malformed n) = 11
 
   -- what a call of the code answered
   abbrev pub reply_of : Result ℕ (Fault S) → Reply S

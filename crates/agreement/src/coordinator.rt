@@ -1,4 +1,5 @@
 ghost use Rattle.std.specs.Prelude.{◌≡◌, Some};
+ghost use Rattle.std.specs.Fmt.{padded};
 ghost use Rattle.agreement.specs.States.{state_code, state_name};
 
 use std::fmt;
@@ -84,11 +85,13 @@ impl State {
     }
 }
 
-// Its name.
+// Its name, filled up and cut as a text is.
 impl fmt::Display for State {
     ghost output = { λ state. Some (state_name state) };
 
+    ghost styled_output = { λ state options. Some (padded options (state_name state)) };
+
     fn fmt<W: fmt::Write>(&self, f: &mut fmt::Formatter<W>) -> fmt::Result {
-        f.write_str(self.name())
+        f.pad(self.name())
     }
 }

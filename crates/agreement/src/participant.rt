@@ -1,6 +1,7 @@
 ghost use Rattle.std.specs.Prelude.{◌≡◌, Some, codes};
 ghost use Rattle.std.specs.Result.{result_ok};
 ghost use Rattle.seats.specs.Exactly.{Exactly};
+ghost use Rattle.std.specs.Fmt.{padded};
 ghost use Rattle.agreement.specs.States.{part_code, part_name, ballot_name};
 
 use std::error::Error;
@@ -69,12 +70,14 @@ impl State {
     }
 }
 
-// Its name.
+// Its name, filled up and cut as a text is.
 impl fmt::Display for State {
     ghost output = { λ x. Some (part_name x) };
 
+    ghost styled_output = { λ x options. Some (padded options (part_name x)) };
+
     fn fmt<W: fmt::Write>(&self, f: &mut fmt::Formatter<W>) -> fmt::Result {
-        f.write_str(self.name())
+        f.pad(self.name())
     }
 }
 
@@ -101,8 +104,10 @@ pub struct UnknownBallot;
 impl fmt::Display for UnknownBallot {
     ghost output = { λ _. Some (codes "a vote is prepared, readonly or aborted") };
 
+    ghost styled_output = { λ _ options. Some (padded options (codes "a vote is prepared, readonly or aborted")) };
+
     fn fmt<W: fmt::Write>(&self, f: &mut fmt::Formatter<W>) -> fmt::Result {
-        f.write_str("a vote is prepared, readonly or aborted")
+        f.pad("a vote is prepared, readonly or aborted")
     }
 }
 

@@ -11,7 +11,8 @@ use Rattle.words.specs.declared.notification.Notification.{Notification}
 use Rattle.words.specs.Notes.{note_of, note_in, row_of, cell_of}
 use Rattle.words.proofs.NoteFacts.{note-back}
 use Rattle.lines.specs.Ring.{first, turned}
-use Rattle.boards.specs.Boards.{blank_row, filled, skip, leading, past, moved_on}
+use Rattle.words.specs.Rows.{blank_row}
+use Rattle.boards.specs.Boards.{filled, skip, leading, past, moved_on}
 use Rattle.lines.specs.Kept.{in-there}
 use Rattle.lines.specs.Lines.{In, Within, there, notes_in}
 use Rattle.lines.proofs.RingFacts.{length-turned}

@@ -7,10 +7,6 @@ use Rattle.boards.specs.Sizes.{cell_count}
 use Rattle.boards.specs.declared.board.Board.{Board}
 use Rattle.words.specs.declared.row.Row.{Row}
 
--- an empty cell
-abbrev pub blank_row : Row
-blank_row = record { transaction = 0; seat = 0; kind = 0 }
-
 -- what a post does to a board
 pub record BoardStep (b : Board) (n : Note) (c : Board) : Type 0 where
   pub cells : c.cells ≡ slice_set b.cells (cell_of n) (row_of n)

@@ -1,4 +1,4 @@
-ghost use Rattle.std.specs.Prelude.{◌≡◌, ◌<◌, length};
+ghost use Rattle.std.specs.Prelude.{◌≡◌, ◌^◌, ◌<◌, length};
 ghost use Rattle.boards.specs.Sizes.{cell_count};
 
 use words::row::Row;
@@ -17,6 +17,7 @@ pub struct Board {
     posts: u64,
     ghost long: { length cells ≡ cell_count },
     ghost within: { next < cell_count },
+    ghost counted: { posts < 2 ^ 64 },
 }
 
 mod carrying;

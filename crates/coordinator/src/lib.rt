@@ -27,6 +27,8 @@ const PLACES: usize = SEATS as usize;
 // How many places the outbox of a call has at least: a call gives each seat at most one notification.
 pub const OUTBOX_PLACES: usize = PLACES;
 
+const _: () = prove!(OUTBOX_PLACES == 16);
+
 // The coordinator of a transaction.
 #[derive(Drop)]
 pub struct Coordinator {

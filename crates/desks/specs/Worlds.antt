@@ -1,10 +1,10 @@
 -- The world that a desk is in.
-use Rattle.std.specs.Prelude.{Some, None, Option, map, reverse}
+use Rattle.std.specs.Prelude.{◌≡◌, ℕ, true, Some, None, Option, is_some, map, reverse}
 use Rattle.agreement.specs.Logs.{log_of}
 use Rattle.agreement.specs.Names.{Kind, Prepare}
 use Rattle.agreement.specs.ParticipantRules.{Part, part}
 use Rattle.agreement.specs.Turns.{note}
-use Rattle.agreement.specs.World.{World, world, office, Mail}
+use Rattle.agreement.specs.World.{World, world, office, Mail, at_first}
 use Rattle.agreement.specs.World as W
 use Rattle.agreement.specs.declared.coordinator.Durability.{Durability}
 use Rattle.agreement.specs.declared.coordinator.Durability.TheVariants as D
@@ -55,6 +55,14 @@ module _ {C P N : Type 0} (mc : LogMeans C) (mp : LogMeans P) (mn : LineMeans N)
 
   abbrev pub world_of : Desk C P N → World
   world_of d = world (log_of mc d.log) (office (coord_of d.coordinator) (map (party_of mp) d.seats.items) (mail_of d)) (reverse d.told.items)
+
+  -- a desk at which transaction t was just opened, with this log and this line
+  pub record Opened (t : ℕ) (log : C) (line : N) (d : Desk C P N) : Type 0 where
+    pub transaction : d.transaction ≡ t
+    pub right : is_some d.right ≡ true
+    pub world : world_of d ≡ at_first (log_of mc log) (mn.waiting line)
+    pub own_log : d.log ≡ log
+    pub own_line : d.line ≡ line
 
   -- what the worlds of two desks, one before a step and one behind it, are to each other
   abbrev pub Between : Desk C P N → Desk C P N → (World → World → Type 0) → Type 0

@@ -1,4 +1,4 @@
 pub mod Bounds
 pub mod Journals
+pub mod Refusals
 pub mod Slots
-pub mod Texts

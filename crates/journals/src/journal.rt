@@ -1,8 +1,9 @@
-ghost use Rattle.std.specs.Prelude.{◌*◌, ◌≤◌, vec_len, Some};
+ghost use Rattle.std.specs.Prelude.{◌≡◌, ◌*◌, ◌≤◌, vec_len, Some};
 ghost use Rattle.records.specs.Sizes.{record_length};
+ghost use Rattle.journals.specs.Refusals.{is_outside, malformed_number, malformed_text};
 ghost use Rattle.journals.specs.Slots.{BytesSound};
-ghost use Rattle.journals.specs.Texts.{malformed_text};
 
+use records::codec::RECORD_BYTES;
 use std::error::Error;
 use std::fmt;
 
@@ -25,12 +26,35 @@ pub struct Malformed {
     pub bytes: Vec<u8>,
 }
 
+impl Malformed {
+    // The number of this fault among those of docs/PROTOCOL.md.
+    pub const NUMBER: u8 = 11;
+
+    // Its number, the published one that programs print.
+    pub fn number(&self) -> u8
+        ensures { result ≡ malformed_number }
+    {
+        Malformed::NUMBER
+    }
+
+    // Whether the record leaves the buffer; where it lies inside, it breaks a rule of the format.
+    pub fn is_outside(&self) -> bool
+        ensures { result ≡ is_outside self.now }
+    {
+        self.record >= self.bytes.len() / RECORD_BYTES
+    }
+}
+
 impl fmt::Display for Malformed {
     ghost output = { λ m. Some (malformed_text m) };
 
     fn fmt<W: fmt::Write>(&self, f: &mut fmt::Formatter<W>) -> fmt::Result {
         let record = self.record;
-        write!(f, "record {record} is malformed or leaves the buffer")
+        if self.is_outside() {
+            write!(f, "record {record} leaves the buffer")
+        } else {
+            write!(f, "record {record} is malformed")
+        }
     }
 }
 

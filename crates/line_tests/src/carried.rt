@@ -6,6 +6,7 @@ use lines::line::{Counted, Line};
 use lines::queue::Queue;
 use lines::trace::TraceEntry;
 use std::test::Fail;
+use words::fault::Fault;
 use words::kind::Kind;
 use words::row::Row;
 
@@ -71,14 +72,14 @@ fn rows_are_posted_in_their_order(rt: HostRuntime) -> Result<(), Fail> {
 
 #[test]
 fn a_queue_holds_a_trace(rt: HostRuntime) {
-    let mut entries = [TraceEntry { state: 0, fault: 0 }; 2];
+    let mut entries = [TraceEntry::BLANK; 2];
     let mut trace = Queue::new(&mut entries);
-    trace.push(TraceEntry { state: 3, fault: 0 });
-    trace.push(TraceEntry { state: 7, fault: 8 });
-    trace.push(TraceEntry { state: 7, fault: 0 });
+    trace.push(TraceEntry::of(3u8, None));
+    trace.push(TraceEntry::of(7u8, Some(Fault::Inconsistent)));
+    trace.push(TraceEntry::of(7u8, None));
     assert_eq!(rt; trace.posts(), 3);
     assert_eq!(rt; trace.pop(), Some(TraceEntry { state: 3, fault: 0 }));
-    assert_eq!(rt; trace.pop(), Some(TraceEntry { state: 7, fault: 8 }));
+    assert_eq!(rt; trace.pop(), Some(TraceEntry { state: 7, fault: 9 }));
     assert!(rt; trace.pop().is_none());
 }
 

@@ -1,11 +1,10 @@
-// Kinds, rows, faults and the outbox.
+// Kinds, rows and faults.
 use logs::log::Full;
 use seats::seat::Seat;
 use std::test::Fail;
 use words::fault::Fault;
 use words::kind::{Kind, UnknownKind};
 use words::notification::Notification;
-use words::outbox::lay;
 use words::row::{NoNotification, Row};
 
 // A notification of transaction 7.
@@ -67,17 +66,12 @@ fn a_notification_prints_its_parts(rt: HostRuntime) -> Result<(), Fail> {
 }
 
 #[test]
-fn an_outbox_keeps_its_rest(rt: HostRuntime) -> Result<(), Fail> {
-    let old = row(1, 1, 1);
-    let mut outbox = [old; 3];
-    let two = [seven(0, Kind::Commit)?, seven(5, Kind::Commit)?];
-    assert_eq!(rt; lay(&mut outbox, &two), Some(2));
-    assert_eq!(rt; outbox[0], row(7, 0, 2));
-    assert_eq!(rt; outbox[1], row(7, 5, 2));
-    assert_eq!(rt; outbox[2], old);
-    let mut short = [old; 1];
-    assert!(rt; lay(&mut short, &two).is_none());
-    assert_eq!(rt; short[0], old);
+fn names_and_seats_are_filled_up(rt: HostRuntime) -> Result<(), Fail> {
+    let Notification { seat, kind, .. } = seven(3, Kind::Commit)?;
+    let line = format!(in rt.alloc();
+        "[{kind:>8}] [{kind:-<8}] [{kind:.3}] [{seat:>3}] [{seat:03}]"
+    )?;
+    assert_eq!(rt; line.as_str(), "[  Commit] [Commit--] [Com] [  3] [003]");
     Ok(())
 }
 

@@ -28,10 +28,6 @@ module _ {A : Type 0} where
   pub within-eq : (xs ys : List A) → xs ≡ ys → Within xs ys
   within-eq xs ys e = subst (Within xs) e (within_same xs)
 
-  pub within-trans : (xs ys zs : List A) → Within xs ys → Within ys zs → Within xs zs
-  unfolding Within
-  within-trans xs ys zs f g x h = g x (f x h)
-
   pub within-left : (xs ys : List A) → Within xs (xs ++ ys)
   unfolding Within
   within-left xs ys x h = in_left x xs ys h
@@ -74,12 +70,6 @@ posting-none a p = (within-left a [], refl)
 pub posting-more : (a : List Note) (p : ℕ) (s s' b c : List Note) (q q' : ℕ) (r : Note) → Posting a p s b q → Within c (b ++ r ∷ []) → q' ≡ (q + 1) % 2 ^ 64 → s' ≡ s ++ r ∷ [] → Posting a p s' c q'
 posting-more a p s s' b c q q' r h w n e =
     subst (λ (t : List Note). Posting a p t c q') (sym e) (within_more a b c s (r ∷ []) h.0 w, n ∙ ap (λ k. (k + 1) % 2 ^ 64) h.1 ∙ sym (wound-push s r p))
-
--- what was posted again had waited
-pub within-again : {A : Type 0} (a b c : List A) (r : A) → Within b a → Within c (b ++ r ∷ []) → In r a → Within c a
-unfolding Within
-within-again {A} a b c r f g m x h =
-    ⊎_elim (f x) (λ k. ⊎_elim (λ e. subst (λ (y : A). In y a) (sym e) m) (λ n. absurd n) k) (in-cases x b (r ∷ []) (g x h))
 
 -- one step more at the end
 pub chain_more : {S A : Type 0} (R : S → A → S → Type 0) (s m t : S) (xs : List A) (x : A) → Chain R s xs m → R m x t → Chain R s (xs ++ x ∷ []) t

@@ -66,11 +66,6 @@ module _ {A : Type 0} where
   pushed_room b h n i x hle lt e =
       ring-push b h n i x hle lt e ∙ cond_below (length (ring b h n)) (length b) (ring b h n ++ x ∷ []) (ring b h n) (omega (arith, length-ring b h n hle (omega arith)))
 
-  pub pushed-full : (b : List A) (h n : ℕ) (x : A) → h ≤ length b → n ≤ length b → length b ≤ n → ring b h n ≡ pushed (length b) (ring b h n) x
-  pushed-full b h n x hle nle full =
-      let e : ltb (length (ring b h n)) (length b) ≡ false = le-ltb _ _ (omega (arith, length-ring b h n hle nle)) in
-      sym (ap (λ t. cond t (ring b h n ++ x ∷ []) (ring b h n)) e)
-
   pub pushed-on : (b : List A) (h n i : ℕ) (x : A) → h ≤ length b → n < length b - h → i ≡ h + n → ring (set b i x) h (n + 1) ≡ pushed (length b) (ring b h n) x
   pushed-on b h n i x hle lt e =
       pushed_room b h n i x hle (omega arith) (ap (λ j. turned (set b j x) h) e ∙ turned-set-on b h n x (omega arith))

@@ -9,8 +9,9 @@ module _ {T : Type 0} where
   abbrev pub held : Queue T → List T
   held q = ring q.buffer.now q.head q.len
 
+  -- a number past 64 bits counts as its remainder
   abbrev pub posted : Queue T → ℕ
-  posted q = q.posts
+  posted q = q.posts % 2 ^ 64
 
   abbrev pub room : Queue T → ℕ
   room q = length q.buffer.now

@@ -1,4 +1,4 @@
-ghost use Rattle.std.specs.Prelude.{◌≡◌, ℕ, ◌+◌, ◌%◌, ◌^◌, Bool, true, false, List, [], ◌∷◌, ◌++◌, length, Option, IfSome};
+ghost use Rattle.std.specs.Prelude.{◌≡◌, ℕ, ◌+◌, ◌%◌, ◌^◌, ◌<◌, Bool, true, false, List, [], ◌∷◌, ◌++◌, length, Option, IfSome};
 ghost use Rattle.std.specs.Option.{option_map};
 ghost use Rattle.lines.specs.Lines.{In, Within, Chain, notes_in, wound};
 ghost use Rattle.words.specs.Notes.{Note, note_of};
@@ -14,6 +14,9 @@ pub trait Line {
 
     // How many were posted, wrapping at 2 ^ 64.
     ghost posts: { Self → ℕ };
+
+    // So it is a 64-bit number.
+    ghost bounded: { (s : Self) → posts s < 2 ^ 64 };
 
     // What a post does to this line, by its own rules.
     ghost step: { Self → Note → Self → Type 0 };

@@ -1,5 +1,5 @@
 // Records and their bytes.
-use records::codec::{RECORD_BYTES, decode, encode, example};
+use records::codec::{RECORD_BYTES, decode, encode};
 use records::record::{Entry, Record};
 use records::row::Row;
 use seats::seat::Seat;
@@ -50,10 +50,14 @@ fn sets_have_what_was_put_in(rt: HostRuntime) -> Result<(), Fail> {
     Ok(())
 }
 
+// The bytes of the Decision of transaction 7 with seats 0, 1, 2 and 5: two runs, three seats from 0 on and one from 5 on.
+pub(crate) fn decided() -> [u8; RECORD_BYTES] {
+    seven(&[1, 2, 0, 3, 5, 1])
+}
+
 #[test]
-fn the_example_reads_back(rt: HostRuntime) {
-    let bytes = seven(&[1, 2, 0, 3, 5, 1]);
-    assert!(rt; example() == bytes);
+fn a_decision_reads_back(rt: HostRuntime) {
+    let bytes = decided();
     let decision = Record::new(7, Entry::Decision(SeatSet::from_bits(0b10_0111)));
     assert!(rt; encode(&decision) == bytes);
     assert_eq!(rt; decode(&bytes), Some(decision));
@@ -116,7 +120,7 @@ fn each_broken_rule_is_refused(rt: HostRuntime) {
 
 #[test]
 fn only_whole_records_are_read(rt: HostRuntime) {
-    let bytes = example();
+    let bytes = decided();
     assert!(rt; decode(&[]).is_none());
     assert!(rt; decode(&bytes[0..21]).is_none());
     assert!(rt; decode(&[0u8; 23]).is_none());

@@ -1,10 +1,10 @@
 // Journals and trays: capacities, refusals and what a restart keeps.
-use crate::bytes::seat;
+use crate::bytes::{decided, seat};
 use journals::journal::Journal;
 use logs::listing::Records;
 use logs::log::{Full, Log};
 use logs::tray::Tray;
-use records::codec::{RECORD_BYTES, example};
+use records::codec::RECORD_BYTES;
 use records::record::{Entry, Record};
 use std::alloc::Global;
 use std::process::Abort;
@@ -79,7 +79,7 @@ fn adding_writes_its_record_and_no_other_byte(rt: HostRuntime) -> Result<(), Fai
 fn opening_checks_each_record(rt: HostRuntime) -> Result<(), Fail> {
     let mut bytes = vec![in rt.alloc(); 0; 44]?;
     assert!(rt; bytes.len() == 44);
-    bytes[0..RECORD_BYTES].copy_from_slice(&example());
+    bytes[0..RECORD_BYTES].copy_from_slice(&decided());
     let opened = Journal::open(bytes, 1).map_err(Fail::new)?;
     assert_eq!(rt; opened.count(), 1);
     assert_eq!(rt; opened.spare(), 1);
@@ -87,7 +87,7 @@ fn opening_checks_each_record(rt: HostRuntime) -> Result<(), Fail> {
         return Err(Fail::new("the second record is malformed"));
     };
     assert_eq!(rt; refusal.record, 1);
-    assert!(rt; refusal.bytes.as_slice().starts_with(&example()));
+    assert!(rt; refusal.bytes.as_slice().starts_with(&decided()));
     assert_eq!(rt; refusal.bytes.len(), 44);
     Ok(())
 }
@@ -96,7 +96,7 @@ fn opening_checks_each_record(rt: HostRuntime) -> Result<(), Fail> {
 fn a_count_past_the_buffer_is_refused(rt: HostRuntime) -> Result<(), Fail> {
     let mut bytes = vec![in rt.alloc(); 0; 43]?;
     assert!(rt; bytes.len() == 43);
-    bytes[0..RECORD_BYTES].copy_from_slice(&example());
+    bytes[0..RECORD_BYTES].copy_from_slice(&decided());
     let Err(refusal) = Journal::open(bytes, usize::MAX) else {
         return Err(Fail::new("so many records do not fit"));
     };
@@ -106,13 +106,22 @@ fn a_count_past_the_buffer_is_refused(rt: HostRuntime) -> Result<(), Fail> {
 
 #[test]
 fn refusals_say_what_is_wrong(rt: HostRuntime) -> Result<(), Fail> {
-    let full = Full { capacity: 32 }.to_string(rt.alloc())?;
-    assert!(rt; full.as_str() == "the log is full: its capacity is 32");
-    let Err(refusal) = Journal::open(vec![in rt.alloc(); 0; 22]?, 1) else {
-        return Err(Fail::new("kind 0"));
-    };
-    let refused = refusal.to_string(rt.alloc())?;
-    assert!(rt; refused.as_str() == "record 0 is malformed or leaves the buffer");
+    let full = Full { capacity: 32 };
+    assert_eq!(rt; full.number(), 10);
+    let said = full.to_string(rt.alloc())?;
+    assert!(rt; said.as_str() == "the log is full: its capacity is 32");
+    for (length, outside, text) in [
+        (22, false, "record 0 is malformed"),
+        (21, true, "record 0 leaves the buffer"),
+    ] {
+        let Err(refusal) = Journal::open(vec![in rt.alloc(); 0; length]?, 1) else {
+            return Err(Fail::new("kind 0, or no record"));
+        };
+        assert_eq!(rt; refusal.number(), 11);
+        assert_eq!(rt; refusal.is_outside(), outside);
+        let said = refusal.to_string(rt.alloc())?;
+        assert!(rt; said.as_str() == text);
+    }
     Ok(())
 }
 

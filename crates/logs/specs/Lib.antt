@@ -3,6 +3,7 @@ pub mod Bounds
 pub mod Gatherers
 pub mod Gathering
 pub mod Listing
+pub mod Numbers
 pub mod Rows
 pub mod Sizes
 pub mod Tables

@@ -3,6 +3,7 @@ ghost use Rattle.std.specs.List.{slice_get};
 ghost use Rattle.std.specs.Option.{option_map};
 ghost use Rattle.records.specs.Recs.{Rec, model_of};
 ghost use Rattle.logs.specs.Adding.{add_answer, loose_after};
+ghost use Rattle.logs.specs.Numbers.{full_number};
 ghost use Rattle.logs.specs.Texts.{full_text};
 
 use records::record::Record;
@@ -13,6 +14,18 @@ use std::fmt;
 #[derive(Clone, Copy, PartialEq, Eq, Debug)]
 pub struct Full {
     pub capacity: usize,
+}
+
+impl Full {
+    // The number of this fault among those of docs/PROTOCOL.md.
+    pub const NUMBER: u8 = 10;
+
+    // Its number, the published one that programs print.
+    pub fn number(self) -> u8
+        ensures { result ≡ full_number }
+    {
+        Full::NUMBER
+    }
 }
 
 impl fmt::Display for Full {

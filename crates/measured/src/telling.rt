@@ -65,7 +65,6 @@ pub(crate) fn tell_fault<S: Copy + Into<u8>>(sink: &mut Sink<'_>, fault: Fault<S
             sink.put_short(spare);
             sink.put_short(sent);
         }
-        Fault::Malformed { record } => sink.put_short(record),
         _ => {}
     }
 }

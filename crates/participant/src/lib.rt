@@ -11,6 +11,8 @@ use words::fault::Fault;
 // How many places the outbox of a call has at least.
 pub const OUTBOX_PLACES: usize = 1;
 
+const _: () = prove!(OUTBOX_PLACES == 1);
+
 // A durable participant in a transaction, at a seat. Its log is lent to the calls that need it, and has to be the same one each time.
 #[derive(Drop)]
 pub struct Participant {

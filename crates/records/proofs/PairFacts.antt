@@ -244,16 +244,6 @@ pub record Cut (f : ℕ → Bool) (n k width : ℕ) (ps : List Pair) : Type 0 wh
   pub done : (j : ℕ) → j + width < k → j < n → covers ps j ≡ f j
   pub run : (j : ℕ) → j < k → k ≤ j + width → f j ≡ true
 
-pub cut-none : (f : ℕ → Bool) (n : ℕ) → Cut f n 0 0 []
-cut-none f n = record {
-  fits = omega arith;
-  low = omega arith;
-  shut = λ h. refl;
-  before = omega arith;
-  done = λ j h l. let no : ⊥ = omega arith in absurd no;
-  run = λ j h l. let no : ⊥ = omega arith in absurd no;
-}
-
 -- seat k is in f
 pub cut_in : (f : ℕ → Bool) (n k width : ℕ) (ps : List Pair) → Cut f n k width ps → k < n → f k ≡ true → Cut f n (k + 1) (width + 1) ps
 cut_in f n k width ps c l y = record {

@@ -50,10 +50,6 @@ unfolding rec_of rec_bytes
 rec_of_lem r =
     ap₂ (λ (t s : ℕ). record { transaction = t; kind = kind_of r.entry; seats = s }) (number_of r.transaction r.small) (seats_of_lem r.entry)
 
--- so the bytes tell the record
-pub same_bytes : (a b : Record) → bytes_of a ≡ bytes_of b → a ≡ b
-same_bytes a b e = same-model a b (sym (rec_of_lem a) ∙ ap rec_of e ∙ rec_of_lem b)
-
 pub length-bytes : (r : Record) → length (bytes_of r) ≡ 22
 unfolding rec_bytes
 length-bytes r = let n = length-padded pair_count (runs_of (seats_of r.entry)) in omega arith

@@ -1,5 +1,5 @@
 -- The bytes of a record, and what bytes say.
-use Rattle.std.specs.Prelude.{◌≡◌, ℕ, ◌+◌, ◌*◌, ◌/◌, ◌%◌, ◌^◌, List, [], ◌∷◌, ◌++◌, length, drop, replicate, Some, None, Option, ◌≢◌, slice_index}
+use Rattle.std.specs.Prelude.{◌≡◌, ℕ, ◌+◌, ◌*◌, ◌/◌, ◌%◌, ◌^◌, List, [], ◌∷◌, ◌++◌, length, drop, Some, None, Option, ◌≢◌, slice_index}
 use Rattle.records.specs.Pairs.{covers, runs, padded, pairs_in}
 use Rattle.records.specs.declared.ranges.Pair.{Pair}
 use Rattle.records.specs.Recs.{Rec, model_of}
@@ -37,7 +37,3 @@ rec_of bs = record {
 abbrev pub ReadsRow : List ℕ → Option Row → Type 0
 ReadsRow bs (Some w) = (r : Record) → (bs ≡ bytes_of r → row_means w ≡ model_of r) × (row_means w ≡ model_of r → bs ≡ bytes_of r)
 ReadsRow bs None = (r : Record) → bs ≢ bytes_of r
-
--- transaction 7, a Decision, two runs: three seats from 0 on, one from 5 on
-abbrev pub example_bytes : List ℕ
-example_bytes = 0 ∷ 0 ∷ 0 ∷ 7 ∷ 1 ∷ 2 ∷ 0 ∷ 3 ∷ 5 ∷ 1 ∷ replicate 12 0

@@ -1,10 +1,10 @@
 ghost use Rattle.std.specs.Prelude.{◌≡◌};
-ghost use Rattle.records.specs.Bytes.{bytes_of, rec_bytes, ReadsRow, example_bytes};
+ghost use Rattle.records.specs.Bytes.{bytes_of, rec_bytes, ReadsRow};
 ghost use Rattle.seats.specs.Exactly.{Exactly};
 ghost use Rattle.records.specs.Rows.{row_means};
 
 use crate::ranges::Ranges;
-use crate::record::{Entry, Record};
+use crate::record::Record;
 use crate::row::Row;
 use seats::set::SeatSet;
 
@@ -30,14 +30,6 @@ pub fn decode(bytes: &[u8]) -> Option<Record>
     ensures { Exactly (λ x. bytes.now ≡ bytes_of x) result }
 {
     Record::try_from(read_row(bytes)?).ok()
-}
-
-// A worked example: transaction 7 is decided with seats 0, 1, 2 and 5.
-pub fn example() -> [u8; RECORD_BYTES]
-    ensures { result ≡ example_bytes }
-{
-    let seats = SeatSet::from_bits(0b10_0111);
-    encode(&Record::new(7, Entry::Decision(seats)))
 }
 
 // The bytes of a row: the transaction in four, the highest first; the kind; the number of pairs; the places of the pairs.

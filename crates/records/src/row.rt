@@ -1,4 +1,5 @@
 ghost use Rattle.std.specs.Prelude.{◌≡◌, Some, codes};
+ghost use Rattle.std.specs.Fmt.{padded};
 ghost use Rattle.std.specs.Result.{result_ok};
 ghost use Rattle.seats.specs.Exactly.{Exactly};
 ghost use Rattle.records.specs.Recs.{model_of};
@@ -53,8 +54,10 @@ pub struct NoRecord;
 impl fmt::Display for NoRecord {
     ghost output = { λ _. Some (codes "the row is no record's") };
 
+    ghost styled_output = { λ _ options. Some (padded options (codes "the row is no record's")) };
+
     fn fmt<W: fmt::Write>(&self, f: &mut fmt::Formatter<W>) -> fmt::Result {
-        f.write_str("the row is no record's")
+        f.pad("the row is no record's")
     }
 }
 

@@ -161,6 +161,8 @@ module _ {C P N : Type 0} (mc : LogMeans C) (mp : LogMeans P) (mn : LineMeans N)
     pub transaction : r.desk.transaction ≡ t
     pub right : is_some r.desk.right ≡ true
     pub scene : scene_of r ≡ at_first (log_of mc log) (mn.waiting line)
+    pub own_log : r.desk.log ≡ log
+    pub own_line : r.desk.line ≡ line
     pub ready : r.logs.items ≡ logs
     pub trace : r.trace.items ≡ []
 

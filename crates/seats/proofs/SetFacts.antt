@@ -179,10 +179,3 @@ lowest-one (suc w) (suc v) h =
     let d : 2 ^ suc v % 2 ≡ 0 = omega arith in
     let q : 2 ^ suc v / 2 ≡ 2 ^ v = omega arith in
     even-zeros w (2 ^ suc v) d ∙ ap (λ (n : ℕ). suc (count_trailing_zeros w n)) q ∙ ap suc (lowest-one w v (omega arith))
-
-pub member-low : (w n k : ℕ) → n < 2 ^ w → member n k ≡ true → k < w
-member-low w n k h y = go (leb_tells w k)
-  where
-    go : ((leb w k ≡ true) × (w ≤ k)) ⊎ ((leb w k ≡ false) × (k < w)) → k < w
-    go (inl e) = let f = member-high w n k h e.1 in let z : ◌≡◌ {A = ℕ} 0 1 = cc in omega arith
-    go (inr e) = e.1

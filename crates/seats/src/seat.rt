@@ -1,4 +1,5 @@
 ghost use Rattle.std.specs.Prelude.{◌≡◌, ◌<◌, ◌≤◌, Some, MatchOption, decimal};
+ghost use Rattle.std.specs.Fmt.{styled_decimal};
 ghost use Rattle.seats.specs.Sizes.{seat_count};
 
 use std::fmt;
@@ -38,8 +39,11 @@ impl Seat {
 impl fmt::Display for Seat {
     ghost output = { λ seat. Some (decimal seat.value) };
 
+    // A width and its like are those of the number.
+    ghost styled_output = { λ seat options. Some (styled_decimal options seat.value) };
+
     fn fmt<W: fmt::Write>(&self, f: &mut fmt::Formatter<W>) -> fmt::Result {
         let number = self.value;
-        write!(f, "{number}")
+        number.fmt(f)
     }
 }

@@ -1,4 +1,3 @@
 pub mod FaultFacts
 pub mod NoteFacts
 pub mod OutboxFacts
-pub mod RowFacts

@@ -1,8 +1,9 @@
 -- The number of each fault, how many notifications were written all the same, and what it says.
 use Rattle.std.specs.Prelude.{ℕ, List, [], ◌++◌, Some, Option, codes, decimal}
 use Rattle.std.specs.Option.{option_map}
+use Rattle.logs.specs.Numbers.{full_number}
 use Rattle.words.specs.declared.fault.Fault.{Fault}
-use Rattle.words.specs.declared.fault.Fault.TheVariants.{ShortOutbox, OtherRight, InvalidState, CannotRegister, OtherTransaction, Misdirected, UnknownTransaction, InvalidPeer, Inconsistent, LogFull, NoPlace, Malformed}
+use Rattle.words.specs.declared.fault.Fault.TheVariants.{ShortOutbox, OtherRight, InvalidState, CannotRegister, OtherTransaction, Misdirected, UnknownTransaction, InvalidPeer, Inconsistent, LogFull, NoPlace}
 
 module _ {S : Type 0} where
   abbrev pub fault_number : Fault S → ℕ
@@ -15,9 +16,8 @@ module _ {S : Type 0} where
   fault_number UnknownTransaction = 7
   fault_number (InvalidPeer seat state sent) = 8
   fault_number Inconsistent = 9
-  fault_number (LogFull full sent) = 10
-  fault_number (NoPlace spare sent) = 10
-  fault_number (Malformed n) = 11
+  fault_number (LogFull full sent) = full_number
+  fault_number (NoPlace spare sent) = full_number
 
   abbrev pub fault_sent : Fault S → ℕ
   fault_sent ShortOutbox = 0
@@ -31,7 +31,6 @@ module _ {S : Type 0} where
   fault_sent Inconsistent = 0
   fault_sent (LogFull full sent) = sent
   fault_sent (NoPlace spare sent) = sent
-  fault_sent (Malformed n) = 0
 
   abbrev pub fault_text : Fault S → List ℕ
   fault_text ShortOutbox = codes "the outbox is too short"
@@ -45,7 +44,6 @@ module _ {S : Type 0} where
   fault_text Inconsistent = codes "Inconsistent Internal State: a peer contradicts the outcome"
   fault_text (LogFull full sent) = codes "the log is full"
   fault_text (NoPlace spare sent) = codes "the log has no place for the vote and its outcome"
-  fault_text (Malformed n) = codes "a record is malformed"
 
   -- the values that it prints behind its text, where the state prints as `shown` says
   abbrev pub fault_values : (S → Option (List ℕ)) → Fault S → Option (List ℕ)
@@ -60,7 +58,6 @@ module _ {S : Type 0} where
   fault_values shown Inconsistent = Some []
   fault_values shown (LogFull full sent) = Some (codes " (capacity " ++ (decimal full.capacity ++ codes ")"))
   fault_values shown (NoPlace spare sent) = Some (codes " (" ++ (decimal spare ++ codes " left)"))
-  fault_values shown (Malformed n) = Some (codes " (record " ++ (decimal n ++ codes ")"))
 
   -- what it prints: its number, its text and its values
   abbrev pub fault_line : (S → Option (List ℕ)) → Fault S → Option (List ℕ)

@@ -4,9 +4,6 @@ use Rattle.words.specs.Notes.{note_of, row_of}
 use Rattle.words.specs.declared.notification.Notification.{Notification}
 use Rattle.words.specs.declared.row.Row.{Row}
 
-abbrev pub rows_of : List Notification → List Row
-rows_of ns = map (λ (n : Notification). row_of (note_of n)) ns
-
 -- rows at the front, and the rest as it was
 abbrev pub laid : List Row → List Row → List Row
 laid rows old = rows ++ drop (length rows) old

@@ -1,5 +1,5 @@
--- What it means to read a row.
-use Rattle.std.specs.Prelude.{◌≡◌, Option}
+-- What it means to read a row, and the row that is no notification's.
+use Rattle.std.specs.Prelude.{◌≡◌, None, Option}
 use Rattle.std.specs.Option.{option_map}
 use Rattle.seats.specs.Exactly.{Exactly}
 use Rattle.words.specs.Notes.{note_of, note_in, row_of}
@@ -10,3 +10,12 @@ use Rattle.words.specs.declared.row.Row.{Row}
 pub record Reads (w : Row) (answer : Option Notification) : Type 0 where
   pub exact : Exactly (λ (n : Notification). w ≡ row_of (note_of n)) answer
   pub note : option_map note_of answer ≡ note_in w
+
+-- all its numbers are 0
+abbrev pub blank_row : Row
+blank_row = record { transaction = 0; seat = 0; kind = 0 }
+
+-- it is this row, and so no notification's: no kind has the number 0
+pub record IsBlank (w : Row) : Type 0 where
+  pub row : w ≡ blank_row
+  pub none : note_in w ≡ None

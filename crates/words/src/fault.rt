@@ -7,7 +7,7 @@ use std::error::Error;
 use std::fmt;
 
 // Why a call refused, or did other than was asked. `S` is the state of the party that was called.
-// Checks run in the order of the faults' numbers.
+// Checks run in the order of the faults' numbers. Number 11 is a journal's refusal to open (`Malformed` of crate `journals`), which no party's call answers.
 #[derive(Clone, Copy, PartialEq, Eq, Debug)]
 pub enum Fault<S> {
     // 1: the outbox has fewer places than the party may need.
@@ -32,8 +32,6 @@ pub enum Fault<S> {
     LogFull { full: Full, sent: usize },
     // 10, at voting: too few places are left for the vote and its outcome; how many there are, and how many notifications were written.
     NoPlace { spare: usize, sent: usize },
-    // 11: a record is malformed; its number from 0.
-    Malformed { record: usize },
 }
 
 impl<S: Copy> Fault<S> {
@@ -51,8 +49,7 @@ impl<S: Copy> Fault<S> {
             Fault::UnknownTransaction => 7,
             Fault::InvalidPeer { .. } => 8,
             Fault::Inconsistent => 9,
-            Fault::LogFull { .. } | Fault::NoPlace { .. } => 10,
-            Fault::Malformed { .. } => 11,
+            Fault::LogFull { .. } | Fault::NoPlace { .. } => Full::NUMBER,
         }
     }
 
@@ -84,7 +81,6 @@ impl<S: Copy> Fault<S> {
             Fault::Inconsistent => "Inconsistent Internal State: a peer contradicts the outcome",
             Fault::LogFull { .. } => "the log is full",
             Fault::NoPlace { .. } => "the log has no place for the vote and its outcome",
-            Fault::Malformed { .. } => "a record is malformed",
         }
     }
 }
@@ -101,7 +97,6 @@ impl<S: Copy + fmt::Display> fmt::Display for Fault<S> {
             Fault::InvalidPeer { seat, state, .. } => write!(f, " (seat {seat}, in {state})"),
             Fault::LogFull { full, .. } => write!(f, " (capacity {})", full.capacity),
             Fault::NoPlace { spare, .. } => write!(f, " ({spare} left)"),
-            Fault::Malformed { record } => write!(f, " (record {record})"),
             _ => Ok(()),
         }
     }

@@ -1,4 +1,5 @@
 ghost use Rattle.std.specs.Prelude.{◌≡◌, Some, codes};
+ghost use Rattle.std.specs.Fmt.{padded};
 ghost use Rattle.std.specs.Result.{result_ok};
 ghost use Rattle.seats.specs.Exactly.{Exactly};
 ghost use Rattle.words.specs.Kinds.{kind_number, kind_at, goes_up, kind_name};
@@ -95,12 +96,14 @@ impl FromStr for Kind {
     }
 }
 
-// It prints as its name.
+// It prints as its name, filled up and cut as a text is.
 impl fmt::Display for Kind {
     ghost output = { λ k. Some (kind_name k) };
 
+    ghost styled_output = { λ k options. Some (padded options (kind_name k)) };
+
     fn fmt<W: fmt::Write>(&self, f: &mut fmt::Formatter<W>) -> fmt::Result {
-        f.write_str(self.name())
+        f.pad(self.name())
     }
 }
 
@@ -111,8 +114,10 @@ pub struct UnknownKind;
 impl fmt::Display for UnknownKind {
     ghost output = { λ _. Some (codes "no such kind") };
 
+    ghost styled_output = { λ _ options. Some (padded options (codes "no such kind")) };
+
     fn fmt<W: fmt::Write>(&self, f: &mut fmt::Formatter<W>) -> fmt::Result {
-        f.write_str("no such kind")
+        f.pad("no such kind")
     }
 }
 

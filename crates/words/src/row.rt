@@ -1,7 +1,8 @@
 ghost use Rattle.std.specs.Prelude.{◌≡◌, Some, codes};
+ghost use Rattle.std.specs.Fmt.{padded};
 ghost use Rattle.std.specs.Result.{result_ok};
 ghost use Rattle.words.specs.Notes.{note_of, row_of};
-ghost use Rattle.words.specs.Rows.{Reads};
+ghost use Rattle.words.specs.Rows.{Reads, IsBlank};
 
 use crate::kind::Kind;
 use crate::notification::Notification;
@@ -10,7 +11,7 @@ use std::error::Error;
 use std::fmt;
 
 // A notification as a plain row of numbers, which any numbers may fill, so its seat and kind are numbers: outboxes and lines hold these, and read them back with a check.
-#[derive(Clone, Copy, PartialEq, Eq, Debug, Default)]
+#[derive(Clone, Copy, PartialEq, Eq, Debug)]
 pub struct Row {
     pub transaction: u32,
     pub seat: u8,
@@ -24,6 +25,16 @@ impl Row {
         seat: 0,
         kind: 0,
     };
+}
+
+// The blank row.
+impl Default for Row {
+    ghost is_default = { IsBlank };
+
+    #[tactic(auto, unfolding(crate::specs::Notes::note_in))]
+    fn default() -> Row {
+        Row::BLANK
+    }
 }
 
 // The row of a notification.
@@ -65,8 +76,10 @@ pub struct NoNotification;
 impl fmt::Display for NoNotification {
     ghost output = { λ _. Some (codes "the row is no notification's") };
 
+    ghost styled_output = { λ _ options. Some (padded options (codes "the row is no notification's")) };
+
     fn fmt<W: fmt::Write>(&self, f: &mut fmt::Formatter<W>) -> fmt::Result {
-        f.write_str("the row is no notification's")
+        f.pad("the row is no notification's")
     }
 }
 

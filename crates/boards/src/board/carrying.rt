@@ -1,10 +1,11 @@
 ghost use Rattle.std.specs.Prelude.{◌≡◌, ◌+◌, ◌%◌, ◌^◌, ◌<◌, false, [], ◌∷◌, ◌++◌, replicate, IfSome};
 ghost use Rattle.std.specs.Option.{option_map};
 ghost use Rattle.std.specs.List.{position};
-ghost use Rattle.boards.specs.Boards.{BoardStep, BoardGives, blank_row, filled};
+ghost use Rattle.boards.specs.Boards.{BoardStep, BoardGives, filled};
 ghost use Rattle.boards.specs.Kept.{never, keeps-posted};
 ghost use Rattle.lines.specs.Lines.{In, Within, notes_in};
 ghost use Rattle.words.specs.Notes.{note_of, row_of, cell_of};
+ghost use Rattle.words.specs.Rows.{blank_row};
 ghost use Rattle.lines.specs.Ring.{turned};
 ghost use Rattle.boards.specs.Sizes.{cell_count};
 
@@ -63,6 +64,8 @@ impl Line for Board {
     ghost waiting = { λ b. notes_in b.cells };
 
     ghost posts = { λ b. b.posts };
+
+    ghost bounded = { λ b. b.counted };
 
     ghost step = { BoardStep };
 

@@ -1,7 +1,5 @@
-ghost use Rattle.std.specs.Prelude.{◌≡◌, MatchResult, replicate, is_some, true};
-ghost use Rattle.agreement.specs.Logs.{log_of};
-ghost use Rattle.agreement.specs.World.{at_first};
-ghost use Rattle.desks.specs.Worlds.{world_of};
+ghost use Rattle.std.specs.Prelude.{◌≡◌, MatchResult, replicate};
+ghost use Rattle.desks.specs.Worlds.{Opened};
 ghost use Rattle.desks.specs.declared.desk.Party.TheVariants.{Nobody};
 ghost use Rattle.seats.specs.Sizes.{seat_count};
 
@@ -16,7 +14,7 @@ use words::row::Row;
 impl<C: Log, P: Log + Drop, N: Line> Desk<C, P, N> {
     // A desk at which a transaction was just opened, with nobody at its seats; without memory for them the log and the line come back.
     pub fn open(transaction: u32, log: C, line: N, alloc: Global) -> Result<Desk<C, P, N>, (C, N)>
-        ensures { MatchResult result (λ desk. (desk.transaction ≡ transaction) × (is_some desk.right ≡ true) × (world_of C.Log P.Log N.Line desk ≡ at_first (log_of C.Log log) (N.Line.waiting line))) (λ back. (back.0 ≡ log) × (back.1 ≡ line)) }
+        ensures { MatchResult result (λ desk. Opened C.Log P.Log N.Line transaction log line desk) (λ back. (back.0 ≡ log) × (back.1 ≡ line)) }
     {
         let Ok(seats) = nobody(alloc) else {
             return Err((log, line));

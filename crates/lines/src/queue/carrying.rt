@@ -2,6 +2,7 @@ ghost use Rattle.std.specs.Prelude.{◌≡◌, ◌+◌, ◌%◌, ◌^◌, [], �
 ghost use Rattle.std.specs.Option.{option_map};
 ghost use Rattle.lines.specs.Kept.{full-drops, free-keeps};
 ghost use Rattle.lines.specs.Lines.{In, Within, notes_in};
+ghost use Rattle.lines.specs.Bounds.{wrapped};
 ghost use Rattle.words.specs.Notes.{note_of, row_of};
 ghost use Rattle.lines.specs.Queues.{held, posted, room, QueueStep, QueueGives};
 
@@ -14,6 +15,8 @@ impl<'a> Line for Queue<'a, Row> {
     ghost waiting = { λ q. notes_in (held q) };
 
     ghost posts = { λ q. posted q };
+
+    ghost bounded = { λ q. wrapped q.posts };
 
     ghost step = { QueueStep };
 

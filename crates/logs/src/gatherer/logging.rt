@@ -1,11 +1,11 @@
 #![tactic(auto, using(crate::proofs::GatherFacts::gathering), unfolding(crate::specs::Gathering::first_of))]
 
-ghost use Rattle.std.specs.Prelude.{◌≡◌, ◌+◌, ◌-◌, [], ◌++◌, map, length, take};
+ghost use Rattle.std.specs.Prelude.{◌≡◌, ◌+◌, ◌-◌, ◌≤◌, [], ◌++◌, map, length, take};
 ghost use Rattle.records.specs.Recs.{model_of};
 ghost use Rattle.logs.specs.Adding.{loose_after, add_answer};
-ghost use Rattle.logs.specs.Bounds.{fitted-within, fitted-atmost};
+ghost use Rattle.logs.specs.Bounds.{held-within, held-atmost};
 ghost use Rattle.logs.specs.Gatherers.{loose_in};
-ghost use Rattle.logs.specs.Gathering.{first_of, fitted, holding_after};
+ghost use Rattle.logs.specs.Gathering.{first_of, holding_after, below_after};
 
 use super::{Gatherer, HELD_RECORDS};
 use crate::log::{Full, Log};
@@ -15,24 +15,25 @@ use records::record::Record;
 impl<L: Log> Log for Gatherer<L> {
     ghost safe = { λ g. L.Log.safe g.below };
 
-    // the loose list below, then the held records as far as they fit
+    // the loose list below, then the held records
     ghost loose = { loose_in L.Log };
 
     ghost capacity = { λ g. L.Log.capacity g.below };
 
     ghost survives = { λ g n. L.Log.survives g.below n };
 
-    ghost within = { λ g. fitted-within (L.Log.capacity g.below) (L.Log.safe g.below) (L.Log.loose g.below) (first_of g.holding g.held) (L.Log.within g.below) };
+    ghost within = { λ g. held-within (L.Log.capacity g.below) (L.Log.safe g.below) (L.Log.loose g.below) g.holding g.held g.room };
 
-    ghost atmost = { λ g n. fitted-atmost (L.Log.survives g.below n) (L.Log.capacity g.below) (L.Log.safe g.below) (L.Log.loose g.below) (first_of g.holding g.held) (L.Log.atmost g.below n) };
+    ghost atmost = { λ g n. held-atmost (L.Log.survives g.below n) (L.Log.loose g.below) (first_of g.holding g.held) (L.Log.atmost g.below n) };
 
-    // Beyond what every log promises: how many records it holds afterwards.
+    // Beyond what every log promises: how many records it holds afterwards, and that they go down when a ninth comes and at no other time.
     fn add(&mut self, record: Record) -> Result<(), Full>
         ensures capacity { L.Log.capacity self.new.below ≡ L.Log.capacity self.old.below }
         ensures safe { L.Log.safe self.new.below ≡ L.Log.safe self.old.below }
         ensures loose { loose_in L.Log self.new ≡ loose_after (L.Log.capacity self.old.below) (L.Log.safe self.old.below) (loose_in L.Log self.old) (model_of «record») }
         ensures answer { result ≡ add_answer (L.Log.capacity self.old.below) (L.Log.safe self.old.below) (loose_in L.Log self.old) }
         ensures holding { self.new.holding ≡ holding_after (L.Log.capacity self.old.below - (length (L.Log.safe self.old.below) + length (L.Log.loose self.old.below))) self.old.holding }
+        ensures below { L.Log.loose self.new.below ≡ below_after (L.Log.capacity self.old.below - (length (L.Log.safe self.old.below) + length (L.Log.loose self.old.below))) self.old.holding (L.Log.loose self.old.below) (first_of self.old.holding self.old.held) }
     {
         if self.below.spare() <= self.holding {
             return Err(Full {
@@ -67,12 +68,11 @@ impl<L: Log> Log for Gatherer<L> {
         if i < under {
             return self.below.read(i);
         }
-        let fitting = self.holding.min(self.below.spare());
-        self.held[..fitting].get(i - under).copied()
+        self.held[..self.holding].get(i - under).copied()
     }
 
     fn count(&self) -> usize {
-        self.capacity() - self.below.spare().saturating_sub(self.holding)
+        self.capacity() - (self.below.spare() - self.holding)
     }
 
     fn secured(&self) -> usize {
@@ -95,11 +95,12 @@ impl<L: Log> Log for Gatherer<L> {
     }
 }
 
-// Adds records to a log, in order, as far as they fit.
+// Adds records to a log that has room for them, in order.
 fn pass_down<L: Log>(below: &mut L, records: &[Record])
+    requires { length (L.Log.safe below.old) + length (L.Log.loose below.old) + length records.now ≤ L.Log.capacity below.old }
     ensures capacity { L.Log.capacity below.new ≡ L.Log.capacity below.old }
     ensures safe { L.Log.safe below.new ≡ L.Log.safe below.old }
-    ensures loose { L.Log.loose below.new ≡ fitted (L.Log.capacity below.old) (L.Log.safe below.old) (L.Log.loose below.old) (map model_of records.now) }
+    ensures loose { L.Log.loose below.new ≡ L.Log.loose below.old ++ map model_of records.now }
 {
     for record in records {
         let _ = below.add(*record);
