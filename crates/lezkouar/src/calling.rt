@@ -1,10 +1,11 @@
 // What the plays of both parties share: how a line of input is read, the log and the outbox that calls are lent, and how it is told what a call did.
-use crate::codes::{Codes, trace_entry};
+use crate::codes::Codes;
 use crate::reading::read_notification;
 use crate::refusal::Slip;
 use crate::showing::print_records;
 use agreement::coordinator::Outcome;
 use arrayvec::ArrayVec;
+use lines::trace::TraceEntry;
 use logs::log::Log;
 use records::record::{Entry, Record};
 use seats::seat::Seat;
@@ -173,7 +174,7 @@ impl<L: Log> Lent<L> {
             Ok(count) => *count,
             Err(fault) => fault.sent(),
         };
-        codes.push(trace_entry(state, answer.err()));
+        codes.push(TraceEntry::of(state, answer.err()));
         if let Some(entry) = codes.pop() {
             let (code, number) = (entry.state, entry.fault);
             print!(rt; "{state} {code}, fault {number}, ")?;

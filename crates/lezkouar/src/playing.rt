@@ -1,8 +1,9 @@
 // Plays from standard input.
-use crate::codes::{BLANK, Codes};
+use crate::codes::Codes;
 use crate::input::{Lines, Numbered, STANDARD_INPUT};
 use crate::refusal::{Refusal, Slip};
 use lines::queue::Queue;
+use lines::trace::TraceEntry;
 
 // How many entries the queue of a play has places for.
 const CODES: usize = 16;
@@ -26,7 +27,7 @@ pub(crate) trait Play {
 
 // Plays every line of standard input.
 pub(crate) fn play_all<P: Play>(rt: &HostRuntime, game: &mut P) -> Result<(), Refusal<'static>> {
-    let mut places = [BLANK; CODES];
+    let mut places = [TraceEntry::BLANK; CODES];
     let mut codes = Queue::new(&mut places);
     let mut lines = Lines::of(STANDARD_INPUT, rt.reader(), rt.alloc())?;
     for _ in 0..u64::MAX {

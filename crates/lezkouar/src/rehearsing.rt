@@ -1,5 +1,5 @@
 // Rehearses a step from a script: its commands are worked out into moves beside, and then one call plays them all and promises agreement of what it played.
-use crate::codes::{BLANK, code_of};
+use crate::codes::code_of;
 use crate::input::{Lines, Numbered, STANDARD_INPUT};
 use crate::refusal::Refusal;
 use crate::script::{LineChoice, Script};
@@ -8,6 +8,7 @@ use crate::tracing::{Ending, how_ended, print_summary, print_trace};
 use boards::board::Board;
 use lines::line::Line;
 use lines::queue::Queue;
+use lines::trace::TraceEntry;
 use logs::log::Log;
 use rehearsals::moves::Move;
 use rehearsals::rehearsal::{Rehearsal, Unfinished, rehearse};
@@ -143,7 +144,7 @@ fn print_all<L: Log + Drop, N: Line>(
     moves: &[Move],
     rehearsal: &Rehearsal<L, L, N>,
 ) -> Result<(), Refusal<'static>> {
-    let mut places = vec![in rt.alloc(); BLANK; moves.len()]?;
+    let mut places = vec![in rt.alloc(); TraceEntry::BLANK; moves.len()]?;
     let mut codes = Queue::new(&mut places);
     for entry in rehearsal.trace() {
         codes.push(code_of(entry));

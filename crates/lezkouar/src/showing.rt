@@ -74,9 +74,8 @@ fn read_records<'a>(rt: &HostRuntime, file: &'a str, count: usize) -> Result<Vec
 
 // Why the bytes of a file are no journal: a record breaks a rule, the file ends before it, or no more of it was read.
 fn not_opened<'a>(file: &'a str, why: &Malformed) -> Refusal<'a> {
-    let (fault, record) = (11, why.record);
-    let is_outside = record.saturating_add(1).saturating_mul(RECORD_BYTES) > why.bytes.len();
-    if !is_outside {
+    let (fault, record) = (why.number(), why.record);
+    if !why.is_outside() {
         Refusal::Malformed {
             file,
             fault,
