@@ -18,4 +18,4 @@ pub(crate) const MOST_LINE_BYTES: usize = 65_536;
 // How many situations of a walk are kept, and how many bytes of what tells them apart.
 pub(crate) const MOST_SITUATIONS: usize = 4_000_000;
 
-pub(crate) const MOST_SITUATION_BYTES: usize = 268_435_456;
+pub(crate) const MOST_SITUATION_BYTES: usize = 335_544_320;

@@ -188,7 +188,7 @@ pub(crate) enum Refusal<'a> {
     Unplayed,
     #[error("the rules are not kept: the script on standard output comes to a situation that shows it")]
     Breach,
-    #[error("there are more situations than are kept, which are 4000000 in 268435456 bytes; '--steps S' with a smaller S ends before")]
+    #[error("there are more situations than are kept, which are 4000000 in 335544320 bytes; '--steps S' with a smaller S ends before")]
     Situations,
     #[error("line {number}: {slip}")]
     Line {
