@@ -1,10 +1,10 @@
 // What the plays of both parties share: how a line of input is read, the log and the outbox that calls are lent, and how it is told what a call did.
+use crate::codes::Codes;
 use crate::reading::read_notification;
 use crate::refusal::Slip;
 use crate::showing::print_records;
 use agreement::coordinator::Outcome;
 use arrayvec::ArrayVec;
-use lines::queue::Queue;
 use lines::trace::TraceEntry;
 use logs::log::Log;
 use records::record::{Entry, Record};
@@ -70,18 +70,18 @@ pub(crate) fn read_act<O>(words: &[&str], other: Slip) -> Result<Act<O>, Slip> {
         ["settle"] => Ok(Act::Settle),
         ["expire"] => Ok(Act::Expire),
         ["resend"] => Ok(Act::Resend),
-        ["cut", n] => Ok(Act::Cut(n.parse().map_err(|_| Slip::Cut)?)),
-        ["cut", ..] => Err(Slip::Cut),
+        ["cut", n] => Ok(Act::Cut(n.parse().map_err(|_| Slip::CUT)?)),
+        ["cut", ..] => Err(Slip::CUT),
         ["outbox", places] => match places.parse() {
             Ok(places) if places <= PLACES => Ok(Act::Aside(Aside::Outbox(places))),
-            _ => Err(Slip::Places),
+            _ => Err(Slip::OUTBOX),
         },
-        ["outbox", ..] => Err(Slip::Places),
+        ["outbox", ..] => Err(Slip::OUTBOX),
         ["fill", count] => {
-            let count = count.parse().map_err(|_| Slip::Fill)?;
+            let count = count.parse().map_err(|_| Slip::FILL)?;
             Ok(Act::Aside(Aside::Fill(count)))
         }
-        ["fill", ..] => Err(Slip::Fill),
+        ["fill", ..] => Err(Slip::FILL),
         ["log"] => Ok(Act::Aside(Aside::Log)),
         _ => Err(other),
     }
@@ -141,11 +141,13 @@ impl<L: Log> Lent<L> {
         }
     }
 
-    // Adds records of another transaction to the log, as far as they fit.
+    // Adds records of another transaction to the log, until it is full.
     fn fill(&mut self, count: u32) {
+        let record = Record::new(OTHER_TRANSACTION, Entry::Decision(SeatSet::empty()));
         for _ in 0..count {
-            let entry = Entry::Decision(SeatSet::empty());
-            let _ = self.log.add(Record::new(OTHER_TRANSACTION, entry));
+            if self.log.add(record).is_err() {
+                return;
+            }
         }
     }
 
@@ -159,25 +161,21 @@ impl<L: Log> Lent<L> {
         Ok(())
     }
 
-    // Prints what a call did: the state's name and code, the number of the fault, what else was answered, and what was sent; the entry of the trace goes through its queue.
+    // Prints what a call did: the state's name and code, the number of the fault, what else was answered, and what was sent; the code and the number come out of the queue.
     pub(crate) fn tell<S: Copy + fmt::Display + Into<u8>>(
         &self,
         rt: &HostRuntime,
+        codes: &mut Codes<'_>,
         state: S,
         extra: Option<Extra>,
         answer: Result<usize, Fault<S>>,
     ) -> io::Result<()> {
-        let (fault, sent) = match &answer {
-            Ok(count) => (0, *count),
-            Err(fault) => (fault.number(), fault.sent()),
+        let sent = match &answer {
+            Ok(count) => *count,
+            Err(fault) => fault.sent(),
         };
-        let mut places = [TraceEntry { state: 0, fault: 0 }];
-        let mut trace = Queue::new(&mut places);
-        trace.push(TraceEntry {
-            state: state.into(),
-            fault,
-        });
-        if let Some(entry) = trace.pop() {
+        codes.push(TraceEntry::of(state, answer.err()));
+        if let Some(entry) = codes.pop() {
             let (code, number) = (entry.state, entry.fault);
             print!(rt; "{state} {code}, fault {number}, ")?;
         }

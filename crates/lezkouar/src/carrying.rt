@@ -1,4 +1,6 @@
 // The play of a line of notifications: posts and takes, and tells what each did.
+use crate::calling::words_of;
+use crate::codes::Codes;
 use crate::playing::{Play, play_all};
 use crate::reading::read_notification;
 use crate::refusal::{Refusal, Slip};
@@ -34,22 +36,25 @@ impl<N: Counted> Play for Carrying<N> {
     type Step = Step;
 
     fn read(&self, line: &str) -> Result<Option<Step>, Slip> {
-        let mut words = line.split(' ');
-        let first = words.next().unwrap_or("");
-        let rest = (words.next(), words.next(), words.next(), words.next());
-        match (first, rest) {
-            ("", (None, None, None, None)) => Ok(None),
-            ("take", (None, None, None, None)) => Ok(Some(Step::Take)),
-            ("post", (Some(transaction), Some(seat), Some(kind), None)) => {
+        match words_of(line).as_slice() {
+            [] => Ok(None),
+            ["take"] => Ok(Some(Step::Take)),
+            ["post", transaction, seat, kind] => {
                 let notification = read_notification(transaction, seat, kind)?;
                 Ok(Some(Step::Post(notification)))
             }
-            ("post", _) => Err(Slip::PostParts),
-            _ => Err(Slip::Step),
+            ["post", ..] => Err(Slip::POST_PARTS),
+            _ => Err(Slip::STEP),
         }
     }
 
-    fn take(&mut self, rt: &HostRuntime, step: Step) -> Result<(), Refusal<'static>> {
+    // A line has no state and no fault, so nothing goes through the queue.
+    fn take(
+        &mut self,
+        rt: &HostRuntime,
+        _codes: &mut Codes<'_>,
+        step: Step,
+    ) -> Result<(), Refusal<'static>> {
         // a match: two calls with other arguments
         match step {
             Step::Post(notification) => {

@@ -2,6 +2,7 @@
 ghost use Rattle.desks.specs.Own.{RightOwn};
 
 use crate::calling::{Act, Extra, Lent, PLACES, TRANSACTION, read_act, words_of};
+use crate::codes::Codes;
 use crate::playing::{Play, play_all};
 use crate::reading::{read_durability, read_kind, read_seat};
 use crate::refusal::{Refusal, Slip};
@@ -65,7 +66,7 @@ impl<L: Log> Coordinating<L> {
             (Some(right), Closing::Rollback) => Some(coordinator.ask_rollback(right, outbox)),
         };
         let (right, answer) = match asked {
-            None => (None, Err(Slip::Spent)),
+            None => (None, Err(Slip::SPENT)),
             Some(Ok(told)) => (
                 None,
                 Ok((Some(Extra::Outcome(told.outcome)), Ok(told.sent))),
@@ -122,7 +123,7 @@ impl<L: Log> Play for Coordinating<L> {
         let act = match words.as_slice() {
             [] => return Ok(None),
             ["register", durability] => Act::Own(Asking::Register(read_durability(durability)?)),
-            ["register", ..] => return Err(Slip::Durability),
+            ["register", ..] => return Err(Slip::DURABILITY),
             ["commit"] => Act::Own(Asking::Close(Closing::Commit)),
             ["rollback"] => Act::Own(Asking::Close(Closing::Rollback)),
             ["outcome"] => Act::Own(Asking::Outcome),
@@ -131,13 +132,18 @@ impl<L: Log> Play for Coordinating<L> {
                 seat: read_seat(seat)?,
                 kind: read_kind(kind)?,
             }),
-            ["receive", ..] => read_act(words.as_slice(), Slip::ReceiveSeatParts)?,
-            _ => read_act(words.as_slice(), Slip::CoordinatorCall)?,
+            ["receive", ..] => read_act(words.as_slice(), Slip::RECEIVE_SEAT_PARTS)?,
+            _ => read_act(words.as_slice(), Slip::COORDINATOR_CALL)?,
         };
         Ok(Some(act))
     }
 
-    fn take(&mut self, rt: &HostRuntime, act: Act<Asking>) -> Result<(), Refusal<'static>> {
+    fn take(
+        &mut self,
+        rt: &HostRuntime,
+        codes: &mut Codes<'_>,
+        act: Act<Asking>,
+    ) -> Result<(), Refusal<'static>> {
         let Lent { log, outbox } = &mut self.lent;
         let outbox = outbox.as_mut_slice();
         // a match: each act is another call with other arguments
@@ -156,7 +162,8 @@ impl<L: Log> Play for Coordinating<L> {
                 return Ok(());
             }
         };
-        self.lent.tell(rt, self.coordinator.state(), extra, answer)?;
+        let state = self.coordinator.state();
+        self.lent.tell(rt, codes, state, extra, answer)?;
         Ok(())
     }
 }

@@ -3,8 +3,11 @@
 
 mod calling;
 mod carrying;
+mod codes;
 mod coordinating;
 mod exploring;
+mod input;
+mod limits;
 mod playing;
 mod reading;
 mod refusal;
@@ -23,20 +26,31 @@ use coordinating::play_coordinator;
 use exploring::explore;
 use journals::journal::Journal;
 use logs::tray::Tray;
+use reading::{read_bytes, read_places};
 use refusal::Refusal;
 use rehearsing::{rehearse_file, rehearse_input};
 use showing::{demonstrate, inspect};
-use std::env;
+use std::alloc::AllocError;
+use std::io::ErrorKind;
 use std::process::ExitCode;
+use std::{env, io};
 use step::rehearse_step;
 use storing::play_store;
 use tables::{Form, print_tables};
 use wording::call::{Command, USAGE, parse};
 
+// Why the words of the call can't be told: one is no UTF-8 text, or there is no memory.
+fn not_told(why: io::Error) -> Refusal<'static> {
+    match why.kind() {
+        ErrorKind::InvalidData => Refusal::NoWord,
+        _ => Refusal::Memory(AllocError),
+    }
+}
+
 // The words of the call, without the program's name.
 fn words_of_call(rt: &HostRuntime) -> Result<Vec<String>, Refusal<'static>> {
     let mut words = Vec::new(rt.alloc());
-    for word in env::args(rt)?.skip(1) {
+    for word in env::args(rt).map_err(not_told)?.skip(1) {
         words.push(word)?;
     }
     Ok(words)
@@ -44,7 +58,7 @@ fn words_of_call(rt: &HostRuntime) -> Result<Vec<String>, Refusal<'static>> {
 
 // A journal of so many bytes, without records.
 fn journal<'a>(rt: &HostRuntime, bytes: &'a str) -> Result<Journal, Refusal<'a>> {
-    let length = bytes.parse::<usize>().map_err(|_| Refusal::Bytes(bytes))?;
+    let length = read_bytes(bytes).ok_or(Refusal::Bytes(bytes))?;
     Ok(Journal::create(vec![in rt.alloc(); 0; length]?))
 }
 
@@ -59,9 +73,7 @@ fn run<'a>(rt: &HostRuntime, words: &'a [String]) -> Result<(), Refusal<'a>> {
             inspect(rt, file, count)
         }
         Command::Queue { places } => {
-            let places = places
-                .parse::<usize>()
-                .map_err(|_| Refusal::Places(places))?;
+            let places = read_places(places).ok_or(Refusal::Places(places))?;
             play_queue(rt, places)
         }
         Command::Board => play_board(rt),

@@ -1,4 +1,6 @@
 // Rehearses a step from a script: its commands are worked out into moves beside, and then one call plays them all and promises agreement of what it played.
+use crate::codes::code_of;
+use crate::input::{Lines, Numbered, STANDARD_INPUT};
 use crate::refusal::Refusal;
 use crate::script::{LineChoice, Script};
 use crate::staging::{Logs, Staging};
@@ -6,29 +8,52 @@ use crate::tracing::{Ending, how_ended, print_summary, print_trace};
 use boards::board::Board;
 use lines::line::Line;
 use lines::queue::Queue;
+use lines::trace::TraceEntry;
 use logs::log::Log;
 use rehearsals::moves::Move;
 use rehearsals::rehearsal::{Rehearsal, Unfinished, rehearse};
 use std::alloc::Global;
-use std::{fs, io, str};
+use std::fs;
+use std::io::{Input, Read};
 use words::row::Row;
 
 // Rehearses the step of a script on standard input.
 pub(crate) fn rehearse_input(rt: &HostRuntime) -> Result<(), Refusal<'static>> {
-    let mut script = Script::new(rt.alloc());
-    for (number, line) in (1u64..).zip(rt.lines(rt.alloc())) {
-        script.read(rt.alloc(), number, line?.as_str())?;
-    }
-    perform(rt, &script)?;
-    Ok(())
+    rehearse_from(rt, STANDARD_INPUT, rt.reader())
 }
 
 // Rehearses the step of a script in a file.
 pub(crate) fn rehearse_file<'a>(rt: &HostRuntime, file: &'a str) -> Result<(), Refusal<'a>> {
-    let bytes = fs::read(rt, file).map_err(|why| Refusal::Unread { file, why })?;
-    let text = str::from_utf8(&bytes).map_err(|_| Refusal::NoText(file))?;
-    rehearse_parts(rt, &[text])?;
+    let opened = fs::open(rt, file).map_err(|why| Refusal::Unread { file, why })?;
+    rehearse_from(rt, file, opened)
+}
+
+// Rehearses the step of the script that a reader gives, which has this name.
+fn rehearse_from<'a, R: Read + Drop>(
+    rt: &HostRuntime,
+    name: &'a str,
+    reader: R,
+) -> Result<(), Refusal<'a>> {
+    let script = read_script(name, reader, rt.alloc())?;
+    perform(rt, &script)?;
     Ok(())
+}
+
+// Reads a script to the end.
+fn read_script<'a, R: Read + Drop>(
+    name: &'a str,
+    reader: R,
+    alloc: Global,
+) -> Result<Script, Refusal<'a>> {
+    let mut script = Script::new(alloc);
+    let mut lines = Lines::of(name, reader, alloc)?;
+    for _ in 0..u64::MAX {
+        let Some(Numbered { number, text }) = lines.next()? else {
+            break;
+        };
+        script.read(alloc, number, text)?;
+    }
+    Ok(script)
 }
 
 // Rehearses the step of a script that comes in parts, and tells how those ended that did.
@@ -49,15 +74,17 @@ fn perform(rt: &HostRuntime, script: &Script) -> Result<Ending, Refusal<'static>
     };
     let transaction = opening.transaction;
     let beside = opening.logs(script.joins(), alloc)?;
-    let logs = opening.logs(script.joins(), alloc)?;
     match opening.line {
         LineChoice::Board => {
             let moves = work_out(alloc, script, transaction, beside, Board::new())?;
+            // the logs beside are gone by now: no more than one set of logs is there at a time
+            let logs = opening.logs(script.joins(), alloc)?;
             play(rt, transaction, logs, Board::new(), &moves)
         }
         LineChoice::Queue(places) => {
             let mut rows = vec![in alloc; Row::BLANK; places]?;
             let moves = work_out(alloc, script, transaction, beside, Queue::new(&mut rows))?;
+            let logs = opening.logs(script.joins(), alloc)?;
             play(rt, transaction, logs, Queue::new(&mut rows), &moves)
         }
     }
@@ -111,13 +138,19 @@ fn play<L: Log + Drop, N: Line + Drop>(
     Ok(ending)
 }
 
-// Prints the trace and the summary.
+// Prints the trace and the summary. The trace's state codes and fault numbers come out of one queue, with a place for each move.
 fn print_all<L: Log + Drop, N: Line>(
     rt: &HostRuntime,
     moves: &[Move],
     rehearsal: &Rehearsal<L, L, N>,
-) -> io::Result<()> {
-    print_trace(rt, moves, rehearsal.trace(), rehearsal.desk())?;
+) -> Result<(), Refusal<'static>> {
+    let mut places = vec![in rt.alloc(); TraceEntry::BLANK; moves.len()]?;
+    let mut codes = Queue::new(&mut places);
+    for entry in rehearsal.trace() {
+        codes.push(code_of(entry));
+    }
+    print_trace(rt, moves, rehearsal.trace(), &mut codes, rehearsal.desk())?;
     println!(rt; "summary")?;
-    print_summary(rt, rehearsal.desk())
+    print_summary(rt, rehearsal.desk())?;
+    Ok(())
 }

@@ -1,7 +1,9 @@
 // Scripts of rehearsals: what each line asks for.
-use crate::reading::{read_durability, read_kind, read_seat};
+use crate::limits::MOST_MOVES;
+use crate::reading::{read_ballot, read_bytes, read_durability, read_kind, read_places, read_seat};
 use crate::refusal::{Refusal, Slip};
 use rehearsals::moves::{Call, Move};
+use seats::seat::SEATS;
 use std::alloc::Global;
 use std::fmt;
 use words::kind::Kind;
@@ -43,7 +45,7 @@ impl LogChoice {
         let gatherers = match self.gatherers {
             Gatherers::Zero => Gatherers::One,
             Gatherers::One => Gatherers::Two,
-            Gatherers::Two => return Err(Slip::Gatherers),
+            Gatherers::Two => return Err(Slip::GATHERERS),
         };
         Ok(LogChoice { gatherers, ..self })
     }
@@ -117,11 +119,18 @@ pub(crate) enum Command {
     Run(u32),
 }
 
+// A command and the number of its line.
+#[derive(Clone, Copy)]
+pub(crate) struct Order {
+    pub(crate) number: u64,
+    pub(crate) command: Command,
+}
+
 // A script, read whole before anything is done.
 #[derive(Drop)]
 pub(crate) struct Script {
     pub(crate) opening: Option<Opening>,
-    pub(crate) commands: Vec<Command>,
+    pub(crate) orders: Vec<Order>,
 }
 
 impl Script {
@@ -129,7 +138,7 @@ impl Script {
     pub(crate) fn new(alloc: Global) -> Script {
         Script {
             opening: None,
-            commands: Vec::new(alloc),
+            orders: Vec::new(alloc),
         }
     }
 
@@ -151,15 +160,20 @@ impl Script {
         match asked {
             Asked::Nothing => {}
             Asked::Opening(opening) => self.opening = Some(opening),
-            Asked::Command(command) => self.commands.push(command)?,
+            Asked::Command(_) if self.orders.len() >= MOST_MOVES => {
+                let slip = Slip::MOVES;
+                return Err(Refusal::Line { number, slip });
+            }
+            Asked::Command(command) => self.orders.push(Order { number, command })?,
         }
         Ok(())
     }
 
     // How many logs the durable participants of the script join with at most.
     pub(crate) fn joins(&self) -> usize {
-        let joins = |command: &&Command| matches!(command, Command::Move(Move::Join(_)));
-        self.commands.iter().filter(joins).count()
+        let joins = |order: &&Order| matches!(order.command, Command::Move(Move::Join(_)));
+        let count = self.orders.iter().filter(joins).count();
+        count.min(usize::from(SEATS))
     }
 }
 
@@ -178,8 +192,8 @@ fn read_words(words: &[&str], opened: bool) -> Result<Asked, Slip> {
     };
     match (*first, opened) {
         ("open", false) => Ok(Asked::Opening(read_opening(rest)?)),
-        ("open", true) => Err(Slip::Reopened),
-        (_, false) => Err(Slip::Unopened),
+        ("open", true) => Err(Slip::REOPENED),
+        (_, false) => Err(Slip::UNOPENED),
         (first, true) => Ok(Asked::Command(read_command(first, rest)?)),
     }
 }
@@ -240,7 +254,7 @@ impl Opening {
             (Awaited::Log(_), "tray") => Ok(Awaited::Part),
             (Awaited::Log(whose), "journal") => Ok(Awaited::Bytes(whose)),
             (Awaited::Bytes(whose), bytes) => {
-                let bytes = bytes.parse().map_err(|_| Slip::Bytes)?;
+                let bytes = read_bytes(bytes).ok_or(Slip::BYTES)?;
                 self.choice(whose).bottom = Bottom::Journal(bytes);
                 Ok(Awaited::Part)
             }
@@ -250,10 +264,10 @@ impl Opening {
             }
             (Awaited::Line, "queue") => Ok(Awaited::Places),
             (Awaited::Places, places) => {
-                self.line = LineChoice::Queue(places.parse().map_err(|_| Slip::QueuePlaces)?);
+                self.line = LineChoice::Queue(read_places(places).ok_or(Slip::PLACES)?);
                 Ok(Awaited::Part)
             }
-            _ => Err(Slip::Opening),
+            _ => Err(Slip::OPENING),
         }
     }
 }
@@ -261,16 +275,16 @@ impl Opening {
 // The opening that the words behind 'open' ask for.
 fn read_opening(words: &[&str]) -> Result<Opening, Slip> {
     let [transaction, rest @ ..] = words else {
-        return Err(Slip::Opening);
+        return Err(Slip::OPENING);
     };
-    let mut opening = Opening::of(transaction.parse().map_err(|_| Slip::Transaction)?);
+    let mut opening = Opening::of(transaction.parse().map_err(|_| Slip::TRANSACTION)?);
     let mut awaited = Awaited::Part;
     for word in rest {
         awaited = opening.take(awaited, word)?;
     }
     match awaited {
         Awaited::Part => Ok(opening),
-        _ => Err(Slip::Opening),
+        _ => Err(Slip::OPENING),
     }
 }
 
@@ -280,7 +294,7 @@ fn read_command(first: &str, rest: &[&str]) -> Result<Command, Slip> {
         [] => read_plain(first),
         [word] => read_with_one(first, word),
         [word, other] => Ok(Command::Move(read_with_two(first, word, other)?)),
-        _ => Err(Slip::Command),
+        _ => Err(parts_of(first)),
     }
 }
 
@@ -293,54 +307,73 @@ fn read_plain(word: &str) -> Result<Command, Slip> {
         "take" => Ok(Command::Move(Move::Take)),
         "post" => Ok(Command::PostLast),
         "deliver" => Ok(Command::Deliver),
-        _ => Err(Slip::Command),
+        _ => Err(parts_of(word)),
     }
 }
 
 // The command of a word with one behind it.
 fn read_with_one(first: &str, word: &str) -> Result<Command, Slip> {
     match first {
-        "run" => Ok(Command::Run(word.parse().map_err(|_| Slip::Times)?)),
+        "run" => Ok(Command::Run(word.parse().map_err(|_| Slip::TIMES)?)),
         "register" => Ok(Command::Move(Move::Register(read_durability(word)?))),
         "join" => Ok(Command::Move(Move::Join(read_seat(word)?))),
         "post" => Ok(Command::Move(Move::Post(read_number(word)?))),
         "settle" => Ok(Command::Move(made_by(word, Call::Settle)?)),
         "expire" => Ok(Command::Move(made_by(word, Call::Expire)?)),
         "resend" => Ok(Command::Move(made_by(word, Call::Resend)?)),
-        _ => Err(Slip::Command),
+        _ => Err(parts_of(first)),
     }
 }
 
 // The move of a word with two behind it.
 fn read_with_two(first: &str, word: &str, other: &str) -> Result<Move, Slip> {
     match first {
-        "vote" => Ok(Move::Vote(read_seat(word)?, other.parse().map_err(Slip::Ballot)?)),
+        "vote" => Ok(Move::Vote(read_seat(word)?, read_ballot(other)?)),
         "say" => Ok(Move::Say(read_seat(word)?, read_upward(other)?)),
-        "cut" => made_by(word, Call::Restart(other.parse().map_err(|_| Slip::Cut)?)),
+        "cut" => made_by(word, Call::Restart(other.parse().map_err(|_| Slip::CUT)?)),
         "receive" => made_by(word, Call::Receive(read_number(other)?)),
-        _ => Err(Slip::Command),
+        _ => Err(parts_of(first)),
+    }
+}
+
+// What a command takes, which is told where fewer or more words lie behind it.
+fn parts_of(first: &str) -> Slip {
+    match first {
+        "register" => Slip::DURABILITY,
+        "join" => Slip::JOIN_PARTS,
+        "commit" | "rollback" | "outcome" | "take" | "deliver" => Slip::ALONE,
+        "vote" => Slip::VOTE_PARTS,
+        "settle" => Slip::SETTLE_PARTS,
+        "expire" => Slip::EXPIRE_PARTS,
+        "resend" => Slip::RESEND_PARTS,
+        "cut" => Slip::CUT_PARTS,
+        "say" => Slip::SAY_PARTS,
+        "post" => Slip::POST_NUMBER,
+        "receive" => Slip::RECEIVE_NUMBER,
+        "run" => Slip::TIMES,
+        _ => Slip::COMMAND,
     }
 }
 
 // The kind of this name, if a participant may say it.
 fn read_upward(name: &str) -> Result<Kind, Slip> {
-    let kind = read_kind(name).map_err(|_| Slip::Upward)?;
+    let kind = read_kind(name).map_err(|_| Slip::UPWARD)?;
     if kind.goes_up() {
         Ok(kind)
     } else {
-        Err(Slip::Upward)
+        Err(Slip::UPWARD)
     }
 }
 
 // The number of a notification.
 fn read_number(word: &str) -> Result<usize, Slip> {
-    word.parse().map_err(|_| Slip::Number)
+    word.parse().map_err(|_| Slip::NUMBER)
 }
 
 // A call of the coordinator, or of the participant at a seat.
 fn made_by(who: &str, call: Call) -> Result<Move, Slip> {
     match who {
         "coordinator" => Ok(Move::Coordinator(call)),
-        seat => Ok(Move::Participant(read_seat(seat).map_err(|_| Slip::Who)?, call)),
+        seat => Ok(Move::Participant(read_seat(seat).map_err(|_| Slip::WHO)?, call)),
     }
 }

@@ -1,9 +1,11 @@
 // Prints the records of logs.
+use crate::limits::MOST_FILE_BYTES;
 use crate::refusal::Refusal;
-use journals::journal::Journal;
+use journals::journal::{Journal, Malformed};
 use logs::listing::Records;
 use logs::log::Log;
-use records::codec::encode;
+use records::codec::{RECORD_BYTES, encode};
+use std::io::Read;
 use std::{fs, io};
 use wording::demonstration::{after_cut, sample};
 use wording::text::Hex;
@@ -51,11 +53,41 @@ pub(crate) fn inspect<'a>(
     file: &'a str,
     count: usize,
 ) -> Result<(), Refusal<'a>> {
-    let bytes = fs::read(rt, file).map_err(|why| Refusal::Unread { file, why })?;
-    let journal = Journal::open(bytes, count).map_err(|why| Refusal::Malformed {
-        file,
-        record: why.record,
-    })?;
+    let bytes = read_records(rt, file, count)?;
+    let journal = Journal::open(bytes, count).map_err(|why| not_opened(file, &why))?;
     print_records(rt, &journal)?;
     Ok(())
+}
+
+// Reads no more of a file than so many records need, and no more than is read of any.
+fn read_records<'a>(rt: &HostRuntime, file: &'a str, count: usize) -> Result<Vec<u8>, Refusal<'a>> {
+    let unread = |why| Refusal::Unread { file, why };
+    let opened = fs::open(rt, file).map_err(unread)?;
+    let needed = count.saturating_mul(RECORD_BYTES).min(MOST_FILE_BYTES);
+    let mut bytes = Vec::new(rt.alloc());
+    opened
+        .take(u64::try_from(needed).unwrap_or(u64::MAX))
+        .read_to_end(&mut bytes)
+        .map_err(unread)?;
+    Ok(bytes)
+}
+
+// Why the bytes of a file are no journal: a record breaks a rule, the file ends before it, or no more of it was read.
+fn not_opened<'a>(file: &'a str, why: &Malformed) -> Refusal<'a> {
+    let (fault, record) = (why.number(), why.record);
+    if !why.is_outside() {
+        Refusal::Malformed {
+            file,
+            fault,
+            record,
+        }
+    } else if why.bytes.len() < MOST_FILE_BYTES {
+        Refusal::Outside {
+            file,
+            fault,
+            record,
+        }
+    } else {
+        Refusal::LongFile(file)
+    }
 }

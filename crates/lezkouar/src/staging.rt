@@ -1,5 +1,7 @@
 // The logs and the line that a script chooses, and the moves that its commands come to.
-use crate::script::{Bottom, Command, Gatherers, LogChoice, Opening, Script};
+use crate::limits::MOST_MOVES;
+use crate::refusal::{Refusal, Slip};
+use crate::script::{Bottom, Command, Gatherers, LogChoice, Opening, Order, Script};
 use choices::either::Either;
 use journals::journal::Journal;
 use lines::line::Line;
@@ -64,6 +66,32 @@ impl Opening {
     }
 }
 
+// Why the commands of a script come to no more moves.
+#[derive(Clone, Copy)]
+enum Halt {
+    Memory,
+    // there are as many as a rehearsal may have
+    Moves,
+}
+
+impl From<AllocError> for Halt {
+    fn from(_why: AllocError) -> Halt {
+        Halt::Memory
+    }
+}
+
+impl Halt {
+    // The refusal of the command at which it came, on the line with this number.
+    fn refusal(self, number: u64, command: Command) -> Refusal<'static> {
+        let slip = match (self, command) {
+            (Halt::Memory, _) => return Refusal::Unplayed,
+            (Halt::Moves, Command::Run(_)) => Slip::RUN_MOVES,
+            (Halt::Moves, _) => Slip::MOVES,
+        };
+        Refusal::Line { number, slip }
+    }
+}
+
 // A rehearsal in which it is found out to which moves the commands of a script come: those that post what a call gave, deliver or run go by what happened.
 pub(crate) struct Staging<L, N> {
     rehearsal: Rehearsal<L, L, N>,
@@ -100,29 +128,40 @@ impl<L: Log + Drop, N: Line> Staging<L, N> {
     }
 
     // Does what the commands of a script ask for.
-    pub(crate) fn follow(&mut self, script: &Script) -> Result<(), AllocError> {
-        for command in &script.commands {
-            match *command {
-                Command::Move(next) => {
-                    self.make(next)?;
-                }
-                Command::PostLast => self.post_asked()?,
-                Command::Deliver => {
-                    self.deliver()?;
-                }
-                Command::Run(times) => self.run(times)?,
-            }
+    pub(crate) fn follow(&mut self, script: &Script) -> Result<(), Refusal<'static>> {
+        for Order { number, command } in &script.orders {
+            self.obey(*command)
+                .map_err(|halt| halt.refusal(*number, *command))?;
         }
         Ok(())
     }
 
+    // Does what a command asks for.
+    fn obey(&mut self, command: Command) -> Result<(), Halt> {
+        match command {
+            Command::Move(next) => {
+                self.make(next)?;
+                Ok(())
+            }
+            Command::PostLast => self.post_asked(),
+            Command::Deliver => {
+                self.deliver()?;
+                Ok(())
+            }
+            Command::Run(times) => self.run(times),
+        }
+    }
+
     // Makes a move, and tells whether anything changed.
-    fn make(&mut self, next: Move) -> Result<bool, AllocError> {
+    fn make(&mut self, next: Move) -> Result<bool, Halt> {
+        if self.moves.len() >= MOST_MOVES {
+            return Err(Halt::Moves);
+        }
         let desk = self.rehearsal.desk();
         let coordinator = desk.state();
         let participant = next.seat().and_then(|seat| desk.state_at(seat));
         let given = desk.given().len();
-        self.moves.push(next)?;
+        self.moves.push(next).map_err(|_| Halt::Memory)?;
         self.rehearsal.play_one(next)?;
         let Some(entry) = self.rehearsal.trace().last() else {
             return Ok(false);
@@ -144,7 +183,7 @@ impl<L: Log + Drop, N: Line> Staging<L, N> {
     }
 
     // Posts all that the last call gave; where it gave nothing, a notification is posted that there is not, so that the trace says so.
-    fn post_asked(&mut self) -> Result<(), AllocError> {
+    fn post_asked(&mut self) -> Result<(), Halt> {
         if self.from == self.to {
             self.make(Move::Post(self.to))?;
         }
@@ -152,7 +191,7 @@ impl<L: Log + Drop, N: Line> Staging<L, N> {
     }
 
     // Posts all that the last call gave, in its order.
-    fn post_last(&mut self) -> Result<(), AllocError> {
+    fn post_last(&mut self) -> Result<(), Halt> {
         for number in self.from..self.to {
             self.make(Move::Post(number))?;
         }
@@ -160,7 +199,7 @@ impl<L: Log + Drop, N: Line> Staging<L, N> {
     }
 
     // Takes a notification, hands it to whom it is for, if it has joined, posts what that gives, and tells whether anything changed.
-    fn deliver(&mut self) -> Result<bool, AllocError> {
+    fn deliver(&mut self) -> Result<bool, Halt> {
         self.make(Move::Take)?;
         let Some(entry) = self.rehearsal.trace().last() else {
             return Ok(false);
@@ -173,7 +212,7 @@ impl<L: Log + Drop, N: Line> Staging<L, N> {
     }
 
     // Hands the notification that was taken last to whom it is for.
-    fn hand(&mut self, notification: Notification) -> Result<(), AllocError> {
+    fn hand(&mut self, notification: Notification) -> Result<(), Halt> {
         let desk = self.rehearsal.desk();
         let number = desk.taken().len().saturating_sub(1);
         let call = Call::Receive(number);
@@ -189,7 +228,7 @@ impl<L: Log + Drop, N: Line> Staging<L, N> {
     }
 
     // Every party settles and posts, and one notification is delivered, so many times at most, until nothing changes.
-    fn run(&mut self, times: u32) -> Result<(), AllocError> {
+    fn run(&mut self, times: u32) -> Result<(), Halt> {
         for _ in 0..times {
             let settled = self.settle_all()?;
             let delivered = self.deliver()?;
@@ -201,7 +240,7 @@ impl<L: Log + Drop, N: Line> Staging<L, N> {
     }
 
     // Every party settles and posts what that gives; tells whether anything changed.
-    fn settle_all(&mut self) -> Result<bool, AllocError> {
+    fn settle_all(&mut self) -> Result<bool, Halt> {
         let mut changed = self.make(Move::Coordinator(Call::Settle))?;
         self.post_last()?;
         for number in 0..SEATS {

@@ -1,9 +1,11 @@
 // Prints the trace of a rehearsal, a line for each move, and how it ended.
 use crate::calling::{Extra, outcome_name};
+use crate::codes::Codes;
 use agreement::coordinator::State;
 use agreement::participant;
 use desks::desk::{Desk, Party};
 use lines::line::Line;
+use lines::trace::TraceEntry;
 use logs::listing::Records;
 use logs::log::Log;
 use rehearsals::moves::{Call, Move};
@@ -13,15 +15,19 @@ use std::io;
 use words::notification::Notification;
 use words::row::Row;
 
-// Prints what each move did.
+// Prints what each move did. Its state code and fault number are what the queue gives next.
 pub(crate) fn print_trace<C: Log, P: Log + Drop, N: Line>(
     rt: &HostRuntime,
     moves: &[Move],
     trace: &[Entry],
+    codes: &mut Codes<'_>,
     desk: &Desk<C, P, N>,
 ) -> io::Result<()> {
     let mut before = 0;
     for (next, entry) in moves.iter().zip(trace) {
+        let Some(code) = codes.pop() else {
+            break;
+        };
         print_mover(rt, *next)?;
         match entry.event {
             Event::Posted => print_notification(rt, said(*next, desk))?,
@@ -31,7 +37,7 @@ pub(crate) fn print_trace<C: Log, P: Log + Drop, N: Line>(
                 _ => println!(rt; "not possible")?,
             },
             _ => {
-                print_call(rt, entry)?;
+                print_call(rt, entry, code)?;
                 print_given(rt, desk.given(), before, entry.given)?;
             }
         }
@@ -95,21 +101,17 @@ fn print_notification(rt: &HostRuntime, notification: Option<Notification>) -> i
     }
 }
 
-// Prints the state behind a call, the number of its fault, and the seat or the outcome that it answered.
-fn print_call(rt: &HostRuntime, entry: &Entry) -> io::Result<()> {
+// Prints the state behind a call and its code, the number of its fault, and the seat or the outcome that it answered.
+fn print_call(rt: &HostRuntime, entry: &Entry, code: TraceEntry) -> io::Result<()> {
     match (entry.event, entry.participant) {
-        (Event::Participant(_) | Event::Joined, Some(state)) => {
-            let code = u8::from(state);
-            print!(rt; "{state} {code}")?;
-        }
+        (Event::Participant(_) | Event::Joined, Some(state)) => print!(rt; "{state}")?,
         _ => {
             let state = entry.coordinator;
-            let code = u8::from(state);
-            print!(rt; "{state} {code}")?;
+            print!(rt; "{state}")?;
         }
     }
-    let fault = fault_of(entry.event);
-    print!(rt; ", fault {fault}")?;
+    let TraceEntry { state, fault } = code;
+    print!(rt; " {state}, fault {fault}")?;
     match extra_of(entry.event) {
         Some(extra) => print!(rt; ", {extra}"),
         None => Ok(()),
@@ -123,15 +125,6 @@ fn extra_of(event: Event) -> Option<Extra> {
         Event::Told(told) => Some(Extra::Outcome(told.outcome)),
         Event::Asked(outcome) => Some(Extra::Outcome(outcome)),
         _ => None,
-    }
-}
-
-// The number of the fault of a call, 0 for none.
-fn fault_of(event: Event) -> u8 {
-    match event {
-        Event::Registered(Err(fault)) | Event::Coordinator(Err(fault)) => fault.number(),
-        Event::Participant(Err(fault)) => fault.number(),
-        _ => 0,
     }
 }
 

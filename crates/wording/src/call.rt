@@ -19,8 +19,8 @@ usage:
   lezkouar journal FILE COUNT         print the first COUNT records of a journal file
   lezkouar --help                     print this text
 
-rehearse, coordinator, participant and line read a command a line; # begins a comment,
-but not for line.
+rehearse, coordinator, participant and line read a command a line; # begins a comment.
+BYTES is at most 16777216 and PLACES 1048576; a script comes to at most 1000000 moves.
 rehearse: open T [log LOG] [stores LOG] [line LINE], register volatile|durable, join SEAT,
   commit, rollback, outcome, vote SEAT prepared|readonly|aborted, settle WHO, expire WHO,
   resend WHO, cut WHO N, say SEAT KIND, post, post I, take, receive WHO I, deliver, run N.
