@@ -70,18 +70,18 @@ pub(crate) fn read_act<O>(words: &[&str], other: Slip) -> Result<Act<O>, Slip> {
         ["settle"] => Ok(Act::Settle),
         ["expire"] => Ok(Act::Expire),
         ["resend"] => Ok(Act::Resend),
-        ["cut", n] => Ok(Act::Cut(n.parse().map_err(|_| Slip::CUT)?)),
-        ["cut", ..] => Err(Slip::CUT),
+        ["cut", n] => Ok(Act::Cut(n.parse().map_err(|_| Slip::Cut)?)),
+        ["cut", ..] => Err(Slip::Cut),
         ["outbox", places] => match places.parse() {
             Ok(places) if places <= PLACES => Ok(Act::Aside(Aside::Outbox(places))),
-            _ => Err(Slip::OUTBOX),
+            _ => Err(Slip::Outbox),
         },
-        ["outbox", ..] => Err(Slip::OUTBOX),
+        ["outbox", ..] => Err(Slip::Outbox),
         ["fill", count] => {
-            let count = count.parse().map_err(|_| Slip::FILL)?;
+            let count = count.parse().map_err(|_| Slip::Fill)?;
             Ok(Act::Aside(Aside::Fill(count)))
         }
-        ["fill", ..] => Err(Slip::FILL),
+        ["fill", ..] => Err(Slip::Fill),
         ["log"] => Ok(Act::Aside(Aside::Log)),
         _ => Err(other),
     }

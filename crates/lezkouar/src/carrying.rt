@@ -43,8 +43,8 @@ impl<N: Counted> Play for Carrying<N> {
                 let notification = read_notification(transaction, seat, kind)?;
                 Ok(Some(Step::Post(notification)))
             }
-            ["post", ..] => Err(Slip::POST_PARTS),
-            _ => Err(Slip::STEP),
+            ["post", ..] => Err(Slip::PostParts),
+            _ => Err(Slip::Step),
         }
     }
 

@@ -66,7 +66,7 @@ impl<L: Log> Coordinating<L> {
             (Some(right), Closing::Rollback) => Some(coordinator.ask_rollback(right, outbox)),
         };
         let (right, answer) = match asked {
-            None => (None, Err(Slip::SPENT)),
+            None => (None, Err(Slip::Spent)),
             Some(Ok(told)) => (
                 None,
                 Ok((Some(Extra::Outcome(told.outcome)), Ok(told.sent))),
@@ -123,7 +123,7 @@ impl<L: Log> Play for Coordinating<L> {
         let act = match words.as_slice() {
             [] => return Ok(None),
             ["register", durability] => Act::Own(Asking::Register(read_durability(durability)?)),
-            ["register", ..] => return Err(Slip::DURABILITY),
+            ["register", ..] => return Err(Slip::Durability),
             ["commit"] => Act::Own(Asking::Close(Closing::Commit)),
             ["rollback"] => Act::Own(Asking::Close(Closing::Rollback)),
             ["outcome"] => Act::Own(Asking::Outcome),
@@ -132,8 +132,8 @@ impl<L: Log> Play for Coordinating<L> {
                 seat: read_seat(seat)?,
                 kind: read_kind(kind)?,
             }),
-            ["receive", ..] => read_act(words.as_slice(), Slip::RECEIVE_SEAT_PARTS)?,
-            _ => read_act(words.as_slice(), Slip::COORDINATOR_CALL)?,
+            ["receive", ..] => read_act(words.as_slice(), Slip::ReceiveSeatParts)?,
+            _ => read_act(words.as_slice(), Slip::CoordinatorCall)?,
         };
         Ok(Some(act))
     }

@@ -48,7 +48,7 @@ impl<'a, R: Read + Drop> Lines<'a, R> {
         }
         let number = self.number;
         if self.line.len() > MOST_LINE_BYTES {
-            let slip = Slip::LONG_LINE;
+            let slip = Slip::LongLine;
             return Err(Refusal::Line { number, slip });
         }
         let bytes = match self.line.as_slice() {
@@ -60,7 +60,7 @@ impl<'a, R: Read + Drop> Lines<'a, R> {
             Ok(text) => Ok(Some(Numbered { number, text })),
             Err(_) => Err(Refusal::Line {
                 number,
-                slip: Slip::NO_TEXT,
+                slip: Slip::NoText,
             }),
         }
     }

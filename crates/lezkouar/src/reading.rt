@@ -14,7 +14,7 @@ pub(crate) fn read_notification(
     kind: &str,
 ) -> Result<Notification, Slip> {
     Ok(Notification {
-        transaction: transaction.parse().map_err(|_| Slip::TRANSACTION)?,
+        transaction: transaction.parse().map_err(|_| Slip::Transaction)?,
         seat: read_seat(seat)?,
         kind: read_kind(kind)?,
     })
@@ -22,13 +22,13 @@ pub(crate) fn read_notification(
 
 // The seat of this number.
 pub(crate) fn read_seat(number: &str) -> Result<Seat, Slip> {
-    let number = number.parse::<u8>().map_err(|_| Slip::SEAT)?;
-    Seat::new(number).ok_or(Slip::SEAT)
+    let number = number.parse::<u8>().map_err(|_| Slip::Seat)?;
+    Seat::new(number).ok_or(Slip::Seat)
 }
 
 // The kind of this name.
 pub(crate) fn read_kind(name: &str) -> Result<Kind, Slip> {
-    name.parse::<Kind>().map_err(|_| Slip::KIND)
+    name.parse::<Kind>().map_err(|_| Slip::Kind)
 }
 
 // The durability of this name.
@@ -36,13 +36,13 @@ pub(crate) fn read_durability(name: &str) -> Result<Durability, Slip> {
     match name {
         "volatile" => Ok(Durability::Volatile),
         "durable" => Ok(Durability::Durable),
-        _ => Err(Slip::DURABILITY),
+        _ => Err(Slip::Durability),
     }
 }
 
 // The ballot of this name.
 pub(crate) fn read_ballot(name: &str) -> Result<Ballot, Slip> {
-    name.parse::<Ballot>().map_err(|_| Slip::BALLOT)
+    name.parse::<Ballot>().map_err(|_| Slip::Ballot)
 }
 
 // How many bytes a journal that is played has.

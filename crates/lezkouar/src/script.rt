@@ -45,7 +45,7 @@ impl LogChoice {
         let gatherers = match self.gatherers {
             Gatherers::Zero => Gatherers::One,
             Gatherers::One => Gatherers::Two,
-            Gatherers::Two => return Err(Slip::GATHERERS),
+            Gatherers::Two => return Err(Slip::Gatherers),
         };
         Ok(LogChoice { gatherers, ..self })
     }
@@ -161,7 +161,7 @@ impl Script {
             Asked::Nothing => {}
             Asked::Opening(opening) => self.opening = Some(opening),
             Asked::Command(_) if self.orders.len() >= MOST_MOVES => {
-                let slip = Slip::MOVES;
+                let slip = Slip::Moves;
                 return Err(Refusal::Line { number, slip });
             }
             Asked::Command(command) => self.orders.push(Order { number, command })?,
@@ -192,8 +192,8 @@ fn read_words(words: &[&str], opened: bool) -> Result<Asked, Slip> {
     };
     match (*first, opened) {
         ("open", false) => Ok(Asked::Opening(read_opening(rest)?)),
-        ("open", true) => Err(Slip::REOPENED),
-        (_, false) => Err(Slip::UNOPENED),
+        ("open", true) => Err(Slip::Reopened),
+        (_, false) => Err(Slip::Unopened),
         (first, true) => Ok(Asked::Command(read_command(first, rest)?)),
     }
 }
@@ -254,7 +254,7 @@ impl Opening {
             (Awaited::Log(_), "tray") => Ok(Awaited::Part),
             (Awaited::Log(whose), "journal") => Ok(Awaited::Bytes(whose)),
             (Awaited::Bytes(whose), bytes) => {
-                let bytes = read_bytes(bytes).ok_or(Slip::BYTES)?;
+                let bytes = read_bytes(bytes).ok_or(Slip::Bytes)?;
                 self.choice(whose).bottom = Bottom::Journal(bytes);
                 Ok(Awaited::Part)
             }
@@ -264,10 +264,10 @@ impl Opening {
             }
             (Awaited::Line, "queue") => Ok(Awaited::Places),
             (Awaited::Places, places) => {
-                self.line = LineChoice::Queue(read_places(places).ok_or(Slip::PLACES)?);
+                self.line = LineChoice::Queue(read_places(places).ok_or(Slip::Places)?);
                 Ok(Awaited::Part)
             }
-            _ => Err(Slip::OPENING),
+            _ => Err(Slip::Opening),
         }
     }
 }
@@ -275,16 +275,16 @@ impl Opening {
 // The opening that the words behind 'open' ask for.
 fn read_opening(words: &[&str]) -> Result<Opening, Slip> {
     let [transaction, rest @ ..] = words else {
-        return Err(Slip::OPENING);
+        return Err(Slip::Opening);
     };
-    let mut opening = Opening::of(transaction.parse().map_err(|_| Slip::TRANSACTION)?);
+    let mut opening = Opening::of(transaction.parse().map_err(|_| Slip::Transaction)?);
     let mut awaited = Awaited::Part;
     for word in rest {
         awaited = opening.take(awaited, word)?;
     }
     match awaited {
         Awaited::Part => Ok(opening),
-        _ => Err(Slip::OPENING),
+        _ => Err(Slip::Opening),
     }
 }
 
@@ -314,7 +314,7 @@ fn read_plain(word: &str) -> Result<Command, Slip> {
 // The command of a word with one behind it.
 fn read_with_one(first: &str, word: &str) -> Result<Command, Slip> {
     match first {
-        "run" => Ok(Command::Run(word.parse().map_err(|_| Slip::TIMES)?)),
+        "run" => Ok(Command::Run(word.parse().map_err(|_| Slip::Times)?)),
         "register" => Ok(Command::Move(Move::Register(read_durability(word)?))),
         "join" => Ok(Command::Move(Move::Join(read_seat(word)?))),
         "post" => Ok(Command::Move(Move::Post(read_number(word)?))),
@@ -330,7 +330,7 @@ fn read_with_two(first: &str, word: &str, other: &str) -> Result<Move, Slip> {
     match first {
         "vote" => Ok(Move::Vote(read_seat(word)?, read_ballot(other)?)),
         "say" => Ok(Move::Say(read_seat(word)?, read_upward(other)?)),
-        "cut" => made_by(word, Call::Restart(other.parse().map_err(|_| Slip::CUT)?)),
+        "cut" => made_by(word, Call::Restart(other.parse().map_err(|_| Slip::Cut)?)),
         "receive" => made_by(word, Call::Receive(read_number(other)?)),
         _ => Err(parts_of(first)),
     }
@@ -339,41 +339,41 @@ fn read_with_two(first: &str, word: &str, other: &str) -> Result<Move, Slip> {
 // What a command takes, which is told where fewer or more words lie behind it.
 fn parts_of(first: &str) -> Slip {
     match first {
-        "register" => Slip::DURABILITY,
-        "join" => Slip::JOIN_PARTS,
-        "commit" | "rollback" | "outcome" | "take" | "deliver" => Slip::ALONE,
-        "vote" => Slip::VOTE_PARTS,
-        "settle" => Slip::SETTLE_PARTS,
-        "expire" => Slip::EXPIRE_PARTS,
-        "resend" => Slip::RESEND_PARTS,
-        "cut" => Slip::CUT_PARTS,
-        "say" => Slip::SAY_PARTS,
-        "post" => Slip::POST_NUMBER,
-        "receive" => Slip::RECEIVE_NUMBER,
-        "run" => Slip::TIMES,
-        _ => Slip::COMMAND,
+        "register" => Slip::Durability,
+        "join" => Slip::JoinParts,
+        "commit" | "rollback" | "outcome" | "take" | "deliver" => Slip::Alone,
+        "vote" => Slip::VoteParts,
+        "settle" => Slip::WhoParts("settle"),
+        "expire" => Slip::WhoParts("expire"),
+        "resend" => Slip::WhoParts("resend"),
+        "cut" => Slip::CutParts,
+        "say" => Slip::SayParts,
+        "post" => Slip::PostNumber,
+        "receive" => Slip::ReceiveNumber,
+        "run" => Slip::Times,
+        _ => Slip::Command,
     }
 }
 
 // The kind of this name, if a participant may say it.
 fn read_upward(name: &str) -> Result<Kind, Slip> {
-    let kind = read_kind(name).map_err(|_| Slip::UPWARD)?;
+    let kind = read_kind(name).map_err(|_| Slip::Upward)?;
     if kind.goes_up() {
         Ok(kind)
     } else {
-        Err(Slip::UPWARD)
+        Err(Slip::Upward)
     }
 }
 
 // The number of a notification.
 fn read_number(word: &str) -> Result<usize, Slip> {
-    word.parse().map_err(|_| Slip::NUMBER)
+    word.parse().map_err(|_| Slip::Number)
 }
 
 // A call of the coordinator, or of the participant at a seat.
 fn made_by(who: &str, call: Call) -> Result<Move, Slip> {
     match who {
         "coordinator" => Ok(Move::Coordinator(call)),
-        seat => Ok(Move::Participant(read_seat(seat).map_err(|_| Slip::WHO)?, call)),
+        seat => Ok(Move::Participant(read_seat(seat).map_err(|_| Slip::Who)?, call)),
     }
 }

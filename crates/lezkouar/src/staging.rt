@@ -85,8 +85,8 @@ impl Halt {
     fn refusal(self, number: u64, command: Command) -> Refusal<'static> {
         let slip = match (self, command) {
             (Halt::Memory, _) => return Refusal::Unplayed,
-            (Halt::Moves, Command::Run(_)) => Slip::RUN_MOVES,
-            (Halt::Moves, _) => Slip::MOVES,
+            (Halt::Moves, Command::Run(_)) => Slip::RunMoves,
+            (Halt::Moves, _) => Slip::Moves,
         };
         Refusal::Line { number, slip }
     }
