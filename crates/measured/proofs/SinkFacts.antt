@@ -1,6 +1,6 @@
 -- Telling one byte, nothing, and one list behind another.
-use Rattle.std.proofs.Common.{◌≡◌, ℕ, zero, suc, ◌+◌, ◌<◌, ◌≤◌, List, [], ◌∷◌, ◌++◌, length, take, drop, min, refl, sym, ap, ◌∙◌, arith, append_assoc, length-append, slice_set, add-one}
-use Rattle.std.proofs.lemmas.List.{append-nil, drop-drop, drop_all, take-append-drop, length-take}
+use Rattle.std.proofs.Common.{◌≡◌, ℕ, zero, suc, ◌+◌, ◌<◌, List, [], ◌∷◌, ◌++◌, length, take, drop, min, refl, sym, ap, ◌∙◌, arith, append_assoc, length-append, slice_set, add-one}
+use Rattle.std.proofs.lemmas.List.{drop-drop, take-append-drop, length-take}
 use Rattle.measured.specs.Sinks.{told, left, Tells, written}
 use Rattle.measured.specs.declared.sink.Sink.{Sink}
 
