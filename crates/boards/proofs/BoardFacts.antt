@@ -1,7 +1,7 @@
 -- What a post on a board and a search of its cells leave and find.
-use Rattle.std.proofs.Common.{◌≡◌, ℕ, zero, suc, ◌+◌, ◌-◌, ◌%◌, ◌<◌, ◌≤◌, List, [], ◌∷◌, ◌++◌, length, get_or, take, drop, set, is_some, not, cond, IfSome, Some, None, Option, sym, refl, ap, ◌∙◌, subst, inl, ⊎_elim, arith}
+use Rattle.std.proofs.Common.{◌≡◌, ℕ, zero, suc, Bool, true, false, ◌+◌, ◌-◌, ◌%◌, ◌<◌, ◌≤◌, List, [], ◌∷◌, ◌++◌, length, get_or, take, drop, set, is_some, not, cond, IfSome, Some, None, Option, sym, refl, ap, ◌∙◌, subst, inl, ⊎_elim, arith}
 use Rattle.std.specs.Option.{option_map}
-use Rattle.std.proofs.lemmas.List.{take-append-drop, length-drop, get_or_append_left, get_or-append_right, get_or-drop, get_or-take}
+use Rattle.std.proofs.lemmas.List.{take-append-drop, length-append, length-drop, get_or_append_left, get_or-append_right, get_or-drop, get_or-take}
 use Rattle.std.proofs.lemmas.Bool.{cases_lt}
 use Rattle.std.proofs.lemmas.Bool.Decides.{nat_tests}
 use Rattle.std.specs.List.{position, position_or_len}
@@ -93,6 +93,51 @@ past-leading (x ∷ xs) h m l = go (note_in x) (past-leading xs h m) l
     go : (o : Option Note) → (leading xs < length xs → past (first (notes_in xs)) h m ≡ (h + m + 1) % 32) → skip o (leading xs) < suc (length xs) → past (first (there o (notes_in xs))) h m ≡ (h + m + 1) % 32
     go None below q = below (omega arith)
     go (Some y) below q = refl
+
+-- a search of two lists, one behind the other: of the first, and where it finds none of the second
+module _ {X : Type 0} (p : X → Bool) where
+  len-front : (xs ys : List X) → position_or_len p xs < length xs → position_or_len p (xs ++ ys) ≡ position_or_len p xs
+  len-front [] ys h = absurd (omega arith)
+  len-front (x ∷ xs) ys h = go (not (p x)) (len-front xs ys) h
+    where
+      go : (b : Bool) → (position_or_len p xs < length xs → position_or_len p (xs ++ ys) ≡ position_or_len p xs) → cond b (1 + position_or_len p xs) 0 < suc (length xs) → cond b (1 + position_or_len p (xs ++ ys)) 0 ≡ cond b (1 + position_or_len p xs) 0
+      go true below l = ap (λ n. 1 + n) (below (omega arith))
+      go false below l = refl
+
+  len-back : (xs ys : List X) → length xs ≤ position_or_len p xs → position_or_len p (xs ++ ys) ≡ length xs + position_or_len p ys
+  len-back [] ys h = omega arith
+  len-back (x ∷ xs) ys h = go (not (p x)) (len-back xs ys) h
+    where
+      go : (b : Bool) → (length xs ≤ position_or_len p xs → position_or_len p (xs ++ ys) ≡ length xs + position_or_len p ys) → suc (length xs) ≤ cond b (1 + position_or_len p xs) 0 → cond b (1 + position_or_len p (xs ++ ys)) 0 ≡ suc (length xs) + position_or_len p ys
+      go true below l = omega (arith, below (omega arith))
+      go false below l = absurd (omega arith)
+
+  at-position : (xs : List X) (k : ℕ) → Some k ≡ position p xs → (k < length xs) × (k ≡ position_or_len p xs)
+  at-position xs k e = grind (arith, nat_tests)
+
+  past-position : (xs : List X) → None ≡ position p xs → length xs ≤ position_or_len p xs
+  past-position xs e = grind (arith, nat_tests)
+
+  pub found-front : (xs ys : List X) (k : ℕ) → Some k ≡ position p xs → Some k ≡ position p (xs ++ ys)
+  found-front xs ys k e =
+      let a = at-position xs k e in
+      let f = len-front xs ys (omega (arith, a.0, a.1)) in
+      let l = length-append xs ys in
+      grind (arith, nat_tests)
+
+  pub found-back : (xs ys : List X) (k : ℕ) → None ≡ position p xs → Some k ≡ position p ys → Some (length xs + k) ≡ position p (xs ++ ys)
+  found-back xs ys k n e =
+      let a = at-position ys k e in
+      let f = len-back xs ys (past-position xs n) in
+      let l = length-append xs ys in
+      grind (arith, nat_tests)
+
+  pub found-nowhere : (xs ys : List X) → None ≡ position p xs → None ≡ position p ys → None ≡ position p (xs ++ ys)
+  found-nowhere xs ys n e =
+      let a = past-position ys e in
+      let f = len-back xs ys (past-position xs n) in
+      let l = length-append xs ys in
+      grind (arith, nat_tests)
 
 -- The same in the words of the code: a search from h found the row k places on, or none.
 pub board-near : (b : List Row) (h k : ℕ) → length b ≡ 32 → h < 32 → Some k ≡ position filled (turned b h) → k < 32

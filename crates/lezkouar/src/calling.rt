@@ -189,20 +189,37 @@ impl<L: Log> Lent<L> {
         Ok(())
     }
 
-    // Prints the first rows of the outbox, parted by semicolons.
-    fn tell_sent(&self, rt: &HostRuntime, sent: usize) -> io::Result<()> {
-        if sent == 0 {
-            return println!(rt; "sent nothing");
+    // Prints the first rows of the outbox.
+    fn tell_sent(&self, rt: &HostRuntime, count: usize) -> io::Result<()> {
+        let sent = Sent {
+            rows: self.outbox.as_slice(),
+            count,
+        };
+        println!(rt; "sent {sent}")
+    }
+}
+
+// What a call sent, the first rows of its outbox: it prints in one piece, since each piece is a write of its own.
+#[derive(Clone, Copy)]
+struct Sent<'a> {
+    rows: &'a [Row],
+    count: usize,
+}
+
+// Its notifications, parted by semicolons.
+impl<'a> fmt::Display for Sent<'a> {
+    fn fmt<W: fmt::Write>(&self, f: &mut fmt::Formatter<W>) -> fmt::Result {
+        if self.count == 0 {
+            return f.write_str("nothing");
         }
-        print!(rt; "sent ")?;
-        for (i, row) in self.outbox.as_slice().iter().take(sent).enumerate() {
+        for (i, row) in self.rows.iter().take(self.count).enumerate() {
             if i > 0 {
-                print!(rt; "; ")?;
+                f.write_str("; ")?;
             }
             if let Ok(notification) = Notification::try_from(*row) {
-                print!(rt; "{notification}")?;
+                write!(f, "{notification}")?;
             }
         }
-        println!(rt; "")
+        Ok(())
     }
 }

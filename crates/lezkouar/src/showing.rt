@@ -59,11 +59,14 @@ pub(crate) fn inspect<'a>(
     Ok(())
 }
 
-// Reads no more of a file than so many records need, and no more than is read of any.
+// Reads no more of a file than so many records need, and no more than is read of any; but a byte in any case, since only reading tells that a folder can't be read.
 fn read_records<'a>(rt: &HostRuntime, file: &'a str, count: usize) -> Result<Vec<u8>, Refusal<'a>> {
     let unread = |why| Refusal::Unread { file, why };
     let opened = fs::open(rt, file).map_err(unread)?;
-    let needed = count.saturating_mul(RECORD_BYTES).min(MOST_FILE_BYTES);
+    let needed = count
+        .saturating_mul(RECORD_BYTES)
+        .min(MOST_FILE_BYTES)
+        .max(1);
     let mut bytes = Vec::new(rt.alloc());
     opened
         .take(u64::try_from(needed).unwrap_or(u64::MAX))
